@@ -1,0 +1,10 @@
+pub mod Paths
+pub mod Sums
+pub mod Language
+pub mod Joined
+pub mod Reduce
+pub mod OneReduction
+pub mod Shape
+pub mod Steps
+pub mod Laws
+pub mod Room

@@ -1,0 +1,4 @@
+pub mod Graph
+pub mod Compiled
+pub mod Reduced
+pub mod Laws

@@ -1,0 +1,5 @@
+pub mod NumberRules
+pub mod CountRules
+pub mod ColourRules
+pub mod ColourBits
+pub mod Fields

@@ -1,0 +1,4 @@
+pub mod Options
+pub mod Distinct
+pub mod Patterns
+pub mod Orders

@@ -1,0 +1,5 @@
+pub mod Distinct
+pub mod Packing
+pub mod Problem
+pub mod Given
+pub mod Laws
