@@ -4,7 +4,10 @@ pub mod Language
 pub mod Joined
 pub mod Reduce
 pub mod OneReduction
+pub mod OneNumbering
 pub mod Shape
 pub mod Steps
 pub mod Laws
 pub mod Room
+pub mod Stations
+pub mod Numbering

@@ -27,9 +27,13 @@ pub isSome-mapped : (f : ℕ → ℕ) (o : Option ℕ) → isSome (mapped f o) �
 isSome-mapped f None = refl
 isSome-mapped f (Some t) = refl
 
-mapped-some : (f : ℕ → ℕ) (o : Option ℕ) (u : ℕ) → mapped f o ≡ Some u → (t : ℕ) × (o ≡ Some t) × (f t ≡ u)
-mapped-some f None u e = absurd (some≢none u (sym e))
-mapped-some f (Some t) u e = (t, refl, unsome (f t) u e)
+pub mapped-some : {X Y : Type 0} (f : X → Y) (o : Option X) (y : Y) → mapped f o ≡ Some y → (x : X) × (o ≡ Some x) × (f x ≡ y)
+mapped-some f None y e = absurd (some≢none y (sym e))
+mapped-some f (Some x) y e = (x, refl, unsome (f x) y e)
+
+pub is-some : {X : Type 0} (o : Option X) → isSome o ≡ true → (x : X) × (o ≡ Some x)
+is-some None e = absurd (false≢true e)
+is-some (Some x) e = (x, refl)
 
 item-of : {r q : Row} → r ≡ q → r .item ≡ q .item
 item-of e = ap (λ (r : Row). r .item) e

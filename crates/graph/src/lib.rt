@@ -1,5 +1,6 @@
 // The layered graph of a packing problem: its rows, and the theorems about its definitions in specs/.
 ghost use Rattle.graph.specs.Laws.{Compiles-layered, Joins-fix, Paths-determined, Reduces, Spells-patterns};
+ghost use Rattle.graph.specs.Numbering.{Compiled-stepped, Numbering-fixed};
 
 // One node of a graph: item i with `copies` of it taken, and the nodes to which its arcs lead.
 // The pass arc goes on to the next item, the take arc takes one copy more. The target has neither.
@@ -24,6 +25,12 @@ pub fn paths_spell_patterns()
 // A compiled graph has the shape of a graph for its items.
 pub fn compiled_is_layered()
     ensures { λ _. ⌜ Compiles-layered ⌝ }
+{}
+
+// The rule of numbering leaves just one graph, and that is the compiled one.
+pub fn numbering_is_fixed()
+    ensures compiled { λ _. ⌜ Compiled-stepped ⌝ }
+    ensures fixed { λ _. ⌜ Numbering-fixed ⌝ }
 {}
 
 // Reduction joins the nodes with equal futures, and keeps the shape and the language of a graph.

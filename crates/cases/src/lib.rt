@@ -1,0 +1,3 @@
+// Tables of cases for the other crates: what no contract can show is run here.
+#[cfg(test)]
+mod kinds;
