@@ -33,6 +33,14 @@ impl<'a, T: Copy> List<'a, T> {
         self.cells.len()
     }
 
+    // The entries, in order.
+    pub fn as_slice(&self) -> &[T]
+        ensures { λ r. ⌜ now r ≡ entries (now (self .entry)) ⌝ }
+    {
+        let n = self.len();
+        &self.cells[..n]
+    }
+
     // The entry at `i`, if there is one.
     pub fn get(&self, i: usize) -> Option<T>
         ensures { λ r. ⌜ Cases r (length (entries (now (self .entry))) ≤ i) (λ x. (i < length (entries (now (self .entry)))) × (x ≡ getD (entries (now (self .entry))) i x)) ⌝ }
