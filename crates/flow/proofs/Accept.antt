@@ -50,10 +50,12 @@ pub record Acceptable (j : Content) : Type 0 where
   pub covers : (i : ℕ) → 1 ≤ i → i ≤ length (j .demands) → entry (j .demands) i ≤ copies-of (j .graph) (j .flow) i
 
 module _ (j : Content) where
-  abbrev off : ℕ → Bool
+  -- a node that is off balance
+  abbrev pub off : ℕ → Bool
   off v = ltb 0 v && not (eqb (inflow (j .graph) (j .flow) v) (outflow (j .flow) v))
 
-  abbrev short : ℕ → Bool
+  -- an item with fewer copies than its demand
+  abbrev pub short : ℕ → Bool
   short i = ltb (copies-of (j .graph) (j .flow) i) (entry (j .demands) i)
 
   pub balanced-from : unbalanced j ≡ None → Balanced (j .graph) (j .flow)

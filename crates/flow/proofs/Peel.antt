@@ -1,7 +1,7 @@
 -- Peeling a bin off a balanced flow: the walk is a path of carrying arcs, and what it takes off leaves a balanced flow
 -- with fewer carrying arcs. Assumes nothing.
 use mathlib.Core.Path.{_≡_, refl, sym, ap, subst, _∙_}
-use mathlib.Core.Logic.{_⊎_, inl, inr}
+use mathlib.Core.Logic.{_⊎_, inl, inr, ⊎-elim, _≢_}
 use mathlib.Core.List.{List, [], _∷_}
 use mathlib.Core.Bool.{true, false, cond}
 use Prim.Native.Nat.{ℕ, zero, suc, _+_, _-_, _*_, _<_, _≤_, min}
@@ -10,6 +10,7 @@ use lib.Dec.{eqb, ltb}
 use lib.ListN.{length, set, length-set}
 use lib.Seq.{getD-set-other}
 use Rattle.std.specs.declared.option.Option.the-variants.{Some, None}
+use Rattle.std.proofs.shelf.Lists.{getD-set-same, set-past}
 use Rattle.std.proofs.shelf.Sums.{sumBy-set}
 use Rattle.std.proofs.shelf.Tests.{cases-eq, cases-lt, cases-bool, eq-eqb, ltb-true, ltb-false, lt-ltb, le-ltb}
 use Rattle.graph.specs.declared.Row.{Row}
@@ -24,12 +25,12 @@ use Rattle.flow.proofs.Paths.{head-pass, head-take, takes-pass, takes-take, pa
 use Rattle.flow.proofs.Place.{Apart, path-apart, path-inner}
 
 module _ (g : List Row) (f : List ℕ) (d n : ℕ) where
-  trail-take : (k : ℕ) → ltb 0 (on f (take-arc n)) ≡ true → at g n .take ≡ Some k → trail (suc d) g f n ≡ take-arc n ∷ trail d g f k
+  pub trail-take : (k : ℕ) → ltb 0 (on f (take-arc n)) ≡ true → at g n .take ≡ Some k → trail (suc d) g f n ≡ take-arc n ∷ trail d g f k
   trail-take k t e =
       ap (λ b. cond b (along (take-arc n) (at g n .take) (trail d g f)) (along (pass-arc n) (at g n .pass) (trail d g f))) t
       ∙ ap (λ o. along (take-arc n) o (trail d g f)) e
 
-  trail-pass : ltb 0 (on f (take-arc n)) ≡ false → trail (suc d) g f n ≡ along (pass-arc n) (at g n .pass) (trail d g f)
+  pub trail-pass : ltb 0 (on f (take-arc n)) ≡ false → trail (suc d) g f n ≡ along (pass-arc n) (at g n .pass) (trail d g f)
   trail-pass t = ap (λ b. cond b (along (take-arc n) (at g n .take) (trail d g f)) (along (pass-arc n) (at g n .pass) (trail d g f))) t
 
 -- from n a path that carries flow all the way
@@ -43,7 +44,7 @@ module _ {m : ℕ} {g : List Row} (s : Forward m g) (f : List ℕ) (on-arcs : On
   path-take e h (take i p) = take e (take i p)
 
   -- an arc that carries flow is there
-  carrying-there : (a : ℕ) → 0 < on f a → (k : ℕ) × (head g a ≡ Some k)
+  pub carrying-there : (a : ℕ) → 0 < on f a → (k : ℕ) × (head g a ≡ Some k)
   carrying-there a h = go (option-cases (head g a))
     where
       go : (head g a ≡ None) ⊎ ((k : ℕ) × (head g a ≡ Some k)) → (k : ℕ) × (head g a ≡ Some k)
@@ -52,7 +53,7 @@ module _ {m : ℕ} {g : List Row} (s : Forward m g) (f : List ℕ) (on-arcs : On
 
   module _ (bal : Balanced g f) where
     -- where an arc that carries flow leads, flow goes on, or it is the target
-    onward : (a k : ℕ) → a < 2 * length g → 0 < on f a → head g a ≡ Some k → 0 < k → k < length g → (suc k ≡ length g) ⊎ (0 < outflow f k)
+    pub onward : (a k : ℕ) → a < 2 * length g → 0 < on f a → head g a ≡ Some k → 0 < k → k < length g → (suc k ≡ length g) ⊎ (0 < outflow f k)
     onward a k below h e inside low = go (cases-eq (suc k) (length g))
       where
         go : (suc k ≡ length g) ⊎ (suc k ≡ length g → ⊥) → (suc k ≡ length g) ⊎ (0 < outflow f k)
@@ -265,3 +266,11 @@ module _ {m : ℕ} {g : List Row} (s : Forward m g) (f : List ℕ) (on-arcs : On
   -- peel on a balanced flow with value left
   pub peeled : Balanced g f → 0 < value f → Peeled g f (trail (length g) g f 0) (least f (trail (length g) g f 0))
   peeled bal h = peel-path (trail (length g) g f 0) bal (trail-path s f on-arcs bal (length g) 0 (omega (arith, s .two)) (omega arith) (inr h))
+
+-- no arc gains
+pub pull-less : (arcs f : List ℕ) (t b : ℕ) → on (pull f arcs t) b ≤ on f b
+pull-less [] f t b = omega arith
+pull-less (a ∷ arcs) f t b = omega (arith, pull-less arcs (set f a (on f a - t)) t b, one)
+  where
+    one : on (set f a (on f a - t)) b ≤ on f b
+    one = ⊎-elim (λ (e : b ≡ a). rw e (⊎-elim (λ (lt : a < length f). rw getD-set-same (omega arith)) (λ (past : length f ≤ a). rw set-past (omega arith)) (cases-lt a (length f)))) (λ (ne : b ≢ a). rw getD-set-other (omega arith)) (cases-eq b a)

@@ -6,3 +6,5 @@ pub mod Job
 pub mod Law
 pub mod Exact
 pub mod Cases
+pub mod Scans
+pub mod Walks

@@ -1,7 +1,21 @@
-// Flows on the graph of a packing problem: what a job's calls mean, and the law over its runs.
+// Flows on the graph of a packing problem: what a job's calls mean, the law over its runs, and the scans and walks of which
+// its calls are made.
 ghost use Rattle.flow.specs.Cases.{Cases-ruled, Marked-cases, Refused-in-order};
 ghost use Rattle.flow.specs.Exact.{Models-exactly};
 ghost use Rattle.flow.specs.Law.{Packs-soundly};
+
+pub mod scans;
+pub mod walks;
+
+// No flow, times or value is above this.
+pub const LIMIT: u32 = 1_000_000_000;
+
+// An item's demand, and the copies of it that are left on its take arcs.
+#[derive(Clone, Copy)]
+pub struct ItemRecord {
+    pub demand: u32,
+    pub left: u64,
+}
 
 // The worked cases of the definitions, as equations that compute.
 pub fn marked_cases_hold()

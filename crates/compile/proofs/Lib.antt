@@ -1,0 +1,13 @@
+pub mod Growth
+pub mod Lookup
+pub mod Links
+pub mod Turns
+pub mod Copies
+pub mod Rounds
+pub mod Target
+pub mod Passes
+pub mod WholeItems
+pub mod Begun
+pub mod Orders
+pub mod Progress
+pub mod Memory

@@ -1,0 +1,11 @@
+use Prim.Native.Nat.{_-_}
+use lib.ListN.{length}
+use Rattle.lists.specs.Entries.{entries}
+use Rattle.flow.proofs.Routing.{Checking}
+use Rattle.flow.proofs.walks.check_route.Given as given
+
+abbrev pub Inv-loop-node : given.InvT-loop-node
+Inv-loop-node l = Checking (entries (l .rows)) (l .flow) (l .counts) (l .times) (l .node) (l .over)
+
+abbrev pub μ-loop-node : given.MeasureT-loop-node
+μ-loop-node l = length (entries (l .rows)) - l .node

@@ -1,0 +1,9 @@
+pub mod Split
+pub mod Readers
+pub mod Words
+pub mod Parts
+pub mod Grammar
+pub mod Valid
+pub mod Written
+pub mod Entries
+pub mod Examples
