@@ -24,7 +24,7 @@ use Rattle.graph.proofs.Sums.{adds, completes, completes-is, total-amount}
 abbrev pub holds : List ℕ → List (List ℕ) → Bool
 holds a s = has same-list a s
 
--- the row of the node with amount a, in a stage that stands after `front`
+-- the row of the node with amount a, in a station that stands after `front`
 pub row-at : (front : List Row) (f : List ℕ → Row) (s : List (List ℕ)) (back : List Row) (o : ℕ) (a : List ℕ)
     → length front ≡ o → holds a s ≡ true → at (front ++ (map f s ++ back)) (o + place a s) ≡ f a
 row-at front f s back o a long h =
@@ -48,7 +48,7 @@ holds-kept test a (b ∷ s) t h = go (holds-kept test a s t) (same-list a b) ref
     go more false e false q = rw q (more (rw e at h))
 
 module _ (k : Meaning) where
-  -- a sum that fits stands in the stage of one copy more
+  -- a sum that fits stands in the station of one copy more
   pub holds-raised : (w a : List ℕ) (s : List (List ℕ)) → k .fits (k .plus a w) ≡ true → holds a s ≡ true → holds (k .plus a w) (raised k w s) ≡ true
   holds-raised w a s f h =
       has-distinct same-list decides-same-list (k .plus a w) (kept-by (k .fits) (map (λ b. k .plus b w) s))

@@ -125,7 +125,7 @@ module _ (m : ℕ) (g : List Row) (st : Layered m g) where
       ∙ ap f (getD-index eqb decides-eqb (class-of t) ds 0 (has-new t lt) ∙ l .is)
       ∙ sym (led-led place class-of (at g (l .to))) ∙ ap (led place) (sym (l .alike)) ∙ led-led place class-of (at g t)
 
-  -- the members of a class have one stage
+  -- the members of a class have one station
   same-stage : (t : ℕ) (lt : t < length g) → (at g t .item ≡ at g (class-of t) .item) × (at g t .copies ≡ at g (class-of t) .copies)
   same-stage t lt =
       let l = leader t lt in (
@@ -232,7 +232,7 @@ module _ (m : ℕ) (g : List Row) (st : Layered m g) where
         ap (λ (c : ℕ). index eqb c ds) (subst (λ (z : ℕ). class-of z ≡ z) to-u (l .own)) ∙ index-getD eqb decides-eqb cs n 0 in-ds,
       )
 
-  -- the lowest node of the class of node t, and its stage
+  -- the lowest node of the class of node t, and its station
   lowest : (t : ℕ) → t < length g → (j : ℕ) × (j ≡ index eqb (class-of t) cs) × (j < length g) × (at g j .item ≡ at g t .item) × (at g j .copies ≡ at g t .copies)
   lowest t lt =
       let j = index eqb (class-of t) cs in

@@ -41,7 +41,7 @@ module _ (k : Meaning) where
       (prefix-trans (layer k w b s) (layer k w (d + b) s) (layer k w (suc (d + b)) s) (layer-prefix w b d s)
       (stage k w (suc (d + b)) s, layer-more k w (d + b) s))
 
-  -- while copy c + 1 of an item is taken, at the j-th node of stage (i, c)
+  -- while copy c + 1 of an item is taken, at the j-th node of station (i, c)
   pub take-prefix : (w : List ℕ) (c b j : ℕ) (s : List (List ℕ)) → c < b → Prefix (layer k w c s ++ raised k w (take j (stage k w c s))) (layer k w b s)
   take-prefix w c b j s lt =
       let here = layer k w c s in

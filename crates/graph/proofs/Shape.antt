@@ -24,7 +24,7 @@ use Rattle.packing.proofs.Options.{some≢none, unsome}
 use Rattle.graph.proofs.Reduce.{pass-in-range, take-in-range}
 use Rattle.graph.proofs.Language.{holds, row-at, holds-raised, length-item-rows, length-layer, some-rows}
 
--- rows by the order of their stages
+-- rows by the order of their stations
 abbrev Upto : Row → Row → Type 0
 Upto r q = (r .item ≤ q .item) × (r .item ≡ q .item → r .copies ≤ q .copies)
 
@@ -39,7 +39,7 @@ sorted-append P Q upto (x ∷ xs) ys ps qs a b = (
   sorted-append P Q upto xs ys (ps .1) qs (a .1) b,
 )
 
--- rows of one stage
+-- rows of one station
 abbrev In : ℕ → ℕ → Row → Type 0
 In i c r = (r .item ≡ i) × (r .copies ≡ c)
 
@@ -61,13 +61,13 @@ all-stage P f (a ∷ s) h = (
   all-stage P f s (λ b q. h b (or-right (same-list b a) (holds b s) q)),
 )
 
--- the arcs of a row lead into the graph, to the stages where they should
+-- the arcs of a row lead into the graph, to the stations where they should
 pub record Led (g : List Row) (r : Row) : Type 0 where
   pub passed : (t : ℕ) → r .pass ≡ Some t → (t < length g) × (at g t .item ≡ suc (r .item)) × (at g t .copies ≡ 0)
   pub taken : (t : ℕ) → r .take ≡ Some t → (t < length g) × (at g t .item ≡ r .item) × (at g t .copies ≡ suc (r .copies))
 
 module _ (k : Meaning) where
-  -- the node with amount a of a stage
+  -- the node with amount a of a station
   stage-row : (w : List ℕ) (pass : List ℕ → Option ℕ) (i c b o : ℕ) (s : List (List ℕ)) (g front back : List Row)
       → length front ≡ o → g ≡ front ++ (item-rows k w pass i c b o s ++ back) → (a : List ℕ) → holds a s ≡ true
       → (o + place a s < length g) × In i c (at g (o + place a s))

@@ -69,7 +69,7 @@ distinct-before x s j lt less =
     ]
 
 module _ (k : Meaning) where
-  -- an amount of the stage of one copy more is a sum that fits
+  -- an amount of the station of one copy more is a sum that fits
   sum-from : (w x : List ℕ) (s : List (List ℕ)) → holds x (kept-by (k .fits) (map (λ a. k .plus a w) s)) ≡ true
       → (j : ℕ) × (j < length s) × (k .plus (getD s j []) w ≡ x) × (k .fits x ≡ true)
   sum-from w x [] h = absurd (false≢true h)
@@ -108,16 +108,16 @@ module _ (k : Meaning) where
         | inl q ↦ absurd (omega (arith, less, ap (λ (z : List ℕ). place z (raised k w s)) (sym e ∙ ap (λ (z : ℕ). k .plus (getD s z []) w) q)))
       ]
 
-  -- where the stage with d copies more begins, counted from the beginning of s
+  -- where the station with d copies more begins, counted from the beginning of s
   abbrev pub begins : List ℕ → ℕ → List (List ℕ) → ℕ
   begins w zero s = 0
   begins w (suc d) s = length s + begins w d (raised k w s)
 
-  -- the take arc from amount a of the stage with d copies more, of b
+  -- the take arc from amount a of the station with d copies more, of b
   abbrev pub taken : List ℕ → ℕ → ℕ → List (List ℕ) → ℕ → List ℕ → Option ℕ
   taken w b o s d a = cond (ltb d b) (take-end k w (o + begins w (suc d) s) (stage k w (suc d) s) a) None
 
-  -- the row of the j-th amount of that stage
+  -- the row of the j-th amount of that station
   pub item-row : (w : List ℕ) (pass : List ℕ → Option ℕ) (i c b o : ℕ) (s : List (List ℕ)) (d j : ℕ) → d ≤ b → j < length (stage k w d s)
       → at (item-rows k w pass i c b o s) (begins w d s + j) ≡ row i (c + d) (taken w b o s d (getD (stage k w d s) j [])) (pass (getD (stage k w d s) j []))
   item-row w pass i c zero o s zero j le lt =
@@ -169,7 +169,7 @@ module _ (k : Meaning) where
       let more = item-amount w b t d j (omega arith) lt in
       (omega (arith, more .0, length-append s rest), ap (λ (n : ℕ). getD (s ++ rest) n []) there ∙ getD-append-add s rest (begins w d t + j) [] ∙ more .1)
 
-  -- every node of an item is in one of its stages
+  -- every node of an item is in one of its stations
   pub item-cover : (w : List ℕ) (b : ℕ) (s : List (List ℕ)) (q : ℕ) → q < length (layer k w b s)
       → (d j : ℕ) × (d ≤ b) × (j < length (stage k w d s)) × (q ≡ begins w d s + j)
   item-cover w zero s q lt = (0, q, omega arith, lt, omega arith)
@@ -190,7 +190,7 @@ module _ (k : Meaning) where
           ∙ ap (λ (r : Row). r .pass) (item-row w pass i c b o s d j le hj)
           ∙ sym (ap pass (ap (λ (n : ℕ). getD (layer k w b s) n []) is ∙ item-amount w b s d j le hj .1))
 
-  -- the first stage of the n-th item, from 0, where s is that of the first
+  -- the first station of the n-th item, from 0, where s is that of the first
   abbrev pub entering : List (List ℕ) → List Item → ℕ → List (List ℕ)
   entering s items zero = s
   entering s [] (suc n) = s

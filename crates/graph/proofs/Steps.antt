@@ -1,5 +1,5 @@
--- The graph as a loop builds it: one more element of a stage, one more stage of an item. Assumes nothing.
--- A loop over a stage keeps `raised k w (take j s)` behind it, a loop over an item's nodes `distinct same-list (take j all)`;
+-- The graph as a loop builds it: one more element of a station, one more station of an item. Assumes nothing.
+-- A loop over a station keeps `raised k w (take j s)` behind it, a loop over an item's nodes `distinct same-list (take j all)`;
 -- what is there stays, so an arc's end is final as soon as it is found.
 use Prim.Native.Nat.{ℕ, zero, suc, _+_, _≤_, _<_}
 use native.Mathlib.Omega.{arith}
@@ -88,7 +88,7 @@ module _ (k : Meaning) where
   abbrev pub sums : List ℕ → List (List ℕ) → List (List ℕ)
   sums w s = kept-by (k .fits) (map (λ a. k .plus a w) s)
 
-  -- one more node of a stage: its sum is noted, if it fits
+  -- one more node of a station: its sum is noted, if it fits
   pub raised-more : (w : List ℕ) (s : List (List ℕ)) (i : ℕ) → i < length s
       → raised k w (take (i + 1) s)
       ≡ cond (k .fits (k .plus (getD s i []) w)) (noted same-list (raised k w (take i s)) (k .plus (getD s i []) w)) (raised k w (take i s))
@@ -125,7 +125,7 @@ module _ (k : Meaning) where
   pub length-raised : (w : List ℕ) (i : ℕ) (s : List (List ℕ)) → length (raised k w (take i s)) ≤ length (raised k w s)
   length-raised w i s = let p = raised-prefix w i s in omega (arith, ap length (p .1) ∙ length-append (raised k w (take i s)) (p .0))
 
-  -- the stage with c copies more than s
+  -- the station with c copies more than s
   abbrev pub stage : List ℕ → ℕ → List (List ℕ) → List (List ℕ)
   stage w zero s = s
   stage w (suc c) s = stage w c (raised k w s)
@@ -134,19 +134,19 @@ module _ (k : Meaning) where
   stage-more w zero s = refl
   stage-more w (suc c) s = stage-more w c (raised k w s)
 
-  -- one stage more, at the end
+  -- one station more, at the end
   pub layer-more : (w : List ℕ) (b : ℕ) (s : List (List ℕ)) → layer k w (suc b) s ≡ layer k w b s ++ stage w (suc b) s
   layer-more w zero s = refl
   layer-more w (suc b) s =
       ap (λ (l : List (List ℕ)). s ++ l) (layer-more w b (raised k w s)) ∙ sym (append-assoc s (layer k w b (raised k w s)) (stage w (suc b) (raised k w s)))
 
-  -- the rows of b stages, from stage (i, c) on, with their take arcs
+  -- the rows of b stations, from station (i, c) on, with their take arcs
   abbrev pub taking-rows : List ℕ → (List ℕ → Option ℕ) → ℕ → ℕ → ℕ → ℕ → List (List ℕ) → List Row
   taking-rows w pass i c zero o s = []
   taking-rows w pass i c (suc b) o s =
       map (row-taking k w pass i c (o + length s) (raised k w s)) s ++ taking-rows w pass i (suc c) b (o + length s) (raised k w s)
 
-  -- before its last copy is taken an item has the take arcs of all stages but the last
+  -- before its last copy is taken an item has the take arcs of all stations but the last
   pub item-rows-is : (w : List ℕ) (pass : List ℕ → Option ℕ) (i c b o : ℕ) (s : List (List ℕ))
       → item-rows k w pass i c b o s ≡ taking-rows w pass i c b o s ++ map (λ a. row i (c + b) None (pass a)) (stage w b s)
   item-rows-is w pass i c zero o s = ap (λ (n : ℕ). map (λ a. row i n None (pass a)) s) (omega arith)
@@ -157,7 +157,7 @@ module _ (k : Meaning) where
       ∙ ap (λ (n : ℕ). here ++ (deep ++ map (λ a. row i n None (pass a)) (stage w b (raised k w s)))) (omega arith)
       ∙ sym (append-assoc here deep (map (λ a. row i (c + suc b) None (pass a)) (stage w b (raised k w s))))
 
-  -- one stage more gets its take arcs: the next one begins where the layer so far ends
+  -- one station more gets its take arcs: the next one begins where the layer so far ends
   pub taking-rows-more : (w : List ℕ) (pass : List ℕ → Option ℕ) (i c b o : ℕ) (s : List (List ℕ))
       → taking-rows w pass i c (suc b) o s
       ≡ taking-rows w pass i c b o s ++ map (row-taking k w pass i (c + b) (o + length (layer k w b s)) (stage w (suc b) s)) (stage w b s)

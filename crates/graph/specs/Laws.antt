@@ -38,7 +38,7 @@ abbrev pub Compiles-layered : Type 0
 Compiles-layered = (k : Meaning) (items : List Item) → Layered (length items) (compiled k items) × (length (compiled k items) ≡ suc (length (loads k items)))
 
 -- Graph h is graph g with its nodes joined, and `new` has the new number of each node. Nodes are joined if and only if they have
--- one stage and their arcs lead to joined nodes; the classes are numbered in the order of their lowest nodes.
+-- one station and their arcs lead to joined nodes; the classes are numbered in the order of their lowest nodes.
 pub record Joins (g h : List Row) (new : ℕ → ℕ) : Type 0 where
   pub in-range : (n : ℕ) → n < length g → new n < length h
   pub onto : (n : ℕ) → n < length h → (u : ℕ) × (u < length g) × (new u ≡ n)

@@ -1,6 +1,6 @@
 -- The graph with its equivalent nodes joined. Assumes nothing.
 --
--- From the last node back, a node joins the class of a later node of its stage if their arcs lead to the same classes,
+-- From the last node back, a node joins the class of a later node of its station if their arcs lead to the same classes,
 -- and otherwise begins a class of its own. A class goes by the number of its first member, the highest node. The classes
 -- are numbered in the order of their lowest nodes.
 use Prim.Native.Nat.{ℕ, suc, _-_}

@@ -6,3 +6,6 @@ pub mod Cells
 pub mod Places
 pub mod Accepts
 pub mod Peels
+pub mod Reducing
+pub mod Writing
+pub mod Compiling

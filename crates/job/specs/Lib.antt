@@ -2,3 +2,4 @@ pub mod View
 pub mod Sound
 pub mod Contract
 pub mod Changes
+pub mod Building

@@ -64,8 +64,8 @@ packed counts times = Packed (record { counts = counts; times = times })
 abbrev pub node : Row → Reply
 node r = Told (Node r)
 
-abbrev pub amount : ℕ → Reply
-amount x = Told (Amount x)
+abbrev pub quantity : ℕ → Reply
+quantity x = Told (Amount x)
 
 abbrev pub phase-of : State → Phase
 phase-of the-variants.Empty = IsEmpty

@@ -4,17 +4,21 @@ ghost use mathlib.Core.Bool.{false};
 ghost use Prim.Native.Nat.{_/_, min};
 ghost use lib.ListN.{length, take, drop};
 ghost use denote.Ref.{name};
-ghost use Rattle.std.specs.Results.{isOk};
+ghost use Rattle.std.specs.Results.{Cases, isOk};
 ghost use Rattle.lists.specs.Entries.{spare};
 ghost use Rattle.flow.specs.Job.{Answer, Call, Fact, Question, Reply, View};
 ghost use Rattle.flow.specs.Law.{Packs-soundly};
-ghost use Rattle.job.specs.View.{size, view, answered, plain, worth, packed, node, amount, phase-of, Asked};
+ghost use Rattle.job.specs.View.{size, view, answered, plain, worth, packed, node, quantity, phase-of, Asked};
 ghost use Rattle.job.specs.Sound.{Sound};
 ghost use Rattle.job.specs.Contract.{Follows};
+ghost use Rattle.job.specs.Building.{Compiles, Reduces, text-in};
+ghost use Rattle.packing.specs.Given.{orders-of};
 use crate::state::Acceptance;
 use crate::state::Core;
 use crate::state::State;
 use graph::Row;
+use limits::kind::Kind;
+use packing::Item;
 use refusal::Refusal;
 
 // A packing graph with its flow, in lent memory. The invariant goes with it, so that no call asks for anything.
@@ -61,23 +65,51 @@ impl<'a> Job<'a> {
 
     // The flow of an arc.
     pub fn arc_flow(&self, arc: u32) -> Result<u32, Refusal>
-        ensures { λ r. ⌜ Asked (now (self .entry) .core) (Question.FlowOf arc) (answered amount r) ⌝ }
+        ensures { λ r. ⌜ Asked (now (self .entry) .core) (Question.FlowOf arc) (answered quantity r) ⌝ }
     {
         self.core.arc_flow(arc)
     }
 
     // The flow left out of the source.
     pub fn value_left(&self) -> Result<u32, Refusal>
-        ensures { λ r. ⌜ Asked (now (self .entry) .core) Question.ValueLeft (answered amount r) ⌝ }
+        ensures { λ r. ⌜ Asked (now (self .entry) .core) Question.ValueLeft (answered quantity r) ⌝ }
     {
         self.core.value_left()
     }
 
     // The copies of an item, from 1, that are left on its take arcs.
     pub fn copies_left(&self, item: u32) -> Result<u64, Refusal>
-        ensures { λ r. ⌜ Asked (now (self .entry) .core) (Question.CopiesLeft item) (answered amount r) ⌝ }
+        ensures { λ r. ⌜ Asked (now (self .entry) .core) (Question.CopiesLeft item) (answered quantity r) ⌝ }
     {
         self.core.copies_left(item)
+    }
+
+    // Opens the job with the graph of the items and no flow, and answers the number of nodes. The load of node n then lies at
+    // place n of `loads`.
+    pub fn compile<K: Kind>(
+        &mut self,
+        kind: &K,
+        items: &[Item<'_>],
+        loads: &mut [K::Load],
+    ) -> Result<usize, Refusal>
+        ensures { λ r. ⌜ Compiles amount (meaning (now (kind .entry))) (orders-of (now (items .entry))) (now (self .entry) .core) (now (self .exit) .core) (now (loads .entry)) (now (loads .exit)) r ⌝ }
+    {
+        self.core.compile(kind, items, loads)
+    }
+
+    // Joins the nodes with equal futures, and answers how many nodes are left.
+    pub fn reduce(&mut self) -> Result<usize, Refusal>
+        ensures { λ r. ⌜ Reduces (now (self .entry) .core) (now (self .exit) .core) r ⌝ }
+    {
+        self.core.reduce()
+    }
+
+    // Writes the model text at the start of the memory, and answers its length.
+    pub fn model_text(&self, out: &mut [u8]) -> Result<usize, Refusal>
+        ensures step { λ r. ⌜ Asked (now (self .entry) .core) (Question.ModelText (length (now (out .entry)))) (answered (text-in (now (out .exit))) r) ⌝ }
+        ensures past { λ r. ⌜ Cases r (λ n. drop n (now (out .exit)) ≡ drop n (now (out .entry))) (λ _. now (out .exit) ≡ now (out .entry)) ⌝ }
+    {
+        self.core.model_text(out)
     }
 
     // Sets all flow to 0.

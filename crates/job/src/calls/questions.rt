@@ -2,7 +2,7 @@
 ghost use mathlib.Core.Path.{_≡_};
 ghost use Rattle.flow.specs.Flow.{value};
 ghost use Rattle.flow.specs.Job.{Question};
-ghost use Rattle.job.specs.View.{size, flow-of, answered, node, amount, Asked};
+ghost use Rattle.job.specs.View.{size, flow-of, answered, node, quantity, Asked};
 ghost use Rattle.job.specs.Sound.{Sound, Loaded};
 use crate::state::Core;
 use crate::state::State;
@@ -35,7 +35,7 @@ impl<'a> Core<'a> {
     // The flow of an arc.
     pub(crate) fn arc_flow(&self, arc: u32) -> Result<u32, Refusal>
         requires { ⌜ Sound (now self) ⌝ }
-        ensures { λ r. ⌜ Asked (now (self .entry)) (Question.FlowOf arc) (answered amount r) ⌝ }
+        ensures { λ r. ⌜ Asked (now (self .entry)) (Question.FlowOf arc) (answered quantity r) ⌝ }
     {
         if let State::Empty = self.state {
             return Err(Refusal::WrongState);
@@ -57,7 +57,7 @@ impl<'a> Core<'a> {
     // The value left.
     pub(crate) fn value_left(&self) -> Result<u32, Refusal>
         requires { ⌜ Sound (now self) ⌝ }
-        ensures { λ r. ⌜ Asked (now (self .entry)) Question.ValueLeft (answered amount r) ⌝ }
+        ensures { λ r. ⌜ Asked (now (self .entry)) Question.ValueLeft (answered quantity r) ⌝ }
     {
         let State::Accepted = self.state else {
             return Err(Refusal::WrongState);
@@ -68,7 +68,7 @@ impl<'a> Core<'a> {
     // The copies of an item, from 1, that are left on its take arcs.
     pub(crate) fn copies_left(&self, item: u32) -> Result<u64, Refusal>
         requires { ⌜ Sound (now self) ⌝ }
-        ensures { λ r. ⌜ Asked (now (self .entry)) (Question.CopiesLeft item) (answered amount r) ⌝ }
+        ensures { λ r. ⌜ Asked (now (self .entry)) (Question.CopiesLeft item) (answered quantity r) ⌝ }
     {
         let State::Accepted = self.state else {
             return Err(Refusal::WrongState);
