@@ -8,7 +8,7 @@ ghost use Rattle.refusal.specs.Refusals.{refused-line};
 ghost use Rattle.packing.specs.Given.{orders-of};
 ghost use Rattle.flow.specs.Job.{View, answers};
 ghost use Rattle.texts.specs.Valid.{CountLimit, Limit};
-ghost use Rattle.modeller.specs.Printed.{base-meaning, bytes-in, calls, modelled, prints, shown, under-count};
+ghost use Rattle.modeller.specs.Printed.{bytes-in, calls, limits-meaning, modelled, prints, shown, under-count};
 use graph::Row;
 use job::job::Job;
 use limits::colours::Colours;
@@ -27,6 +27,7 @@ use std::alloc::AllocError;
 use std::alloc::Global;
 use texts::Base;
 use texts::Instance;
+use texts::Limits;
 use texts::ReadError;
 use texts::read_instance;
 
@@ -77,6 +78,23 @@ fn line_of(heap: Global, refusal: Refusal) -> Result<Vec<u8>, AllocError>
     Ok(refusal.line(heap)?.into_bytes())
 }
 
+// What is answered with `out` as memory, as bytes.
+fn bytes_of(
+    heap: Global,
+    mut out: Vec<u8>,
+    answer: Result<usize, Refusal>,
+) -> Result<Vec<u8>, AllocError>
+    ensures { λ r. ⌜ made r (λ v. vec-items v ≡ bytes-in (vec-items out) answer) ⌝ }
+{
+    match answer {
+        Ok(length) => {
+            out.truncate(length);
+            Ok(out)
+        }
+        Err(refusal) => line_of(heap, refusal),
+    }
+}
+
 // The model text of the items under a kind, or the line of the refusal.
 fn model_for<K: Kind>(heap: Global, kind: &K, items: &[Item<'_>]) -> Result<Vec<u8>, AllocError>
     ensures { λ r. ⌜ made r (λ v. vec-items v ≡ modelled (meaning (now (kind .entry))) (orders-of (now (items .entry)))) ⌝ }
@@ -91,13 +109,8 @@ fn model_for<K: Kind>(heap: Global, kind: &K, items: &[Item<'_>]) -> Result<Vec<
     let mut cells = vec![in heap; 0; CELLS]?;
     let mut loads = empty_loads(heap, kind, NODES)?;
     let mut out = vec![in heap; 0; TEXT]?;
-    match write_model(kind, items, &mut rows, &mut cells, &mut loads, &mut out) {
-        Ok(length) => {
-            out.truncate(length);
-            Ok(out)
-        }
-        Err(refusal) => line_of(heap, refusal),
-    }
+    let answer = write_model(kind, items, &mut rows, &mut cells, &mut loads, &mut out);
+    bytes_of(heap, out, answer)
 }
 
 // The same with the number of items in a bin limited too, if it is.
@@ -119,30 +132,39 @@ fn model_under<K: Kind + Drop>(
     }
 }
 
-// The model text of an instance, or the line of the refusal.
-fn model_of_instance(heap: Global, instance: &Instance<'_>) -> Result<Vec<u8>, AllocError> {
-    let count = instance.limits.count;
-    match instance.limits.base {
+// The model text of items under limits, or the line of the refusal.
+fn model_within(heap: Global, limits: Limits, items: &[Item<'_>]) -> Result<Vec<u8>, AllocError>
+    requires base { ⌜ Limit (limits .base) ⌝ }
+    requires count { ⌜ CountLimit (limits .count) ⌝ }
+    ensures { λ r. ⌜ made r (λ v. vec-items v ≡ modelled (limits-meaning limits) (orders-of (now (items .entry)))) ⌝ }
+{
+    let count = limits.count;
+    match limits.base {
         Base::Length(limit) => match Length::new(limit) {
-            Some(kind) => model_under(heap, kind, count, &instance.items),
+            Some(kind) => model_under(heap, kind, count, items),
             None => unreachable(),
         },
-        Base::Vector([w, x, y, z]) => match Vector::new(Four { w, x, y, z }) {
-            Some(kind) => model_under(heap, kind, count, &instance.items),
-            None => unreachable(),
-        },
+        Base::Vector(four) => {
+            let [w, x, y, z] = four;
+            match Vector::new(Four { w, x, y, z }) {
+                Some(kind) => model_under(heap, kind, count, items),
+                None => unreachable(),
+            }
+        }
         Base::Colours(limit) => match Colours::new(limit) {
-            Some(kind) => model_under(heap, kind, count, &instance.items),
+            Some(kind) => model_under(heap, kind, count, items),
             None => unreachable(),
         },
     }
 }
 
 // What is printed for a text: the model of the instance that it spells, or the line of the refusal.
-pub fn model_of(heap: Global, text: &[u8]) -> Result<Vec<u8>, AllocError> {
+pub fn model_of(heap: Global, text: &[u8]) -> Result<Vec<u8>, AllocError>
+    ensures { λ r. ⌜ made r (λ v. vec-items v ≡ prints (now (text .entry))) ⌝ }
+{
     let mut instance = Instance::new(heap)?;
     match read_instance(text, &mut instance) {
-        Ok(()) => model_of_instance(heap, &instance),
+        Ok(()) => model_within(heap, instance.limits, &instance.items),
         Err(ReadError::Refused(refusal)) => line_of(heap, refusal),
         Err(ReadError::OutOfMemory) => Err(AllocError),
     }
