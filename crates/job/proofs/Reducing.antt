@@ -26,7 +26,7 @@ use Rattle.job.specs.declared.state.State.the-variants
 use Rattle.job.specs.declared.state.Core.{Core}
 use Rattle.job.specs.View.{graph-of, arcs-of, flow-of, demanded, content, size, shown, view}
 use Rattle.job.specs.Sound.{Loaded, Kept}
-use Rattle.job.specs.Building.{Joined, Reduces, row-memory}
+use Rattle.job.specs.Building.{Joined, Reduced-so, row-memory}
 use Rattle.job.proofs.Facts.{cell-is, open-loaded}
 use Rattle.job.proofs.Follow.{kept-fresh, view-fresh}
 
@@ -84,7 +84,7 @@ module _ (b a : Core) (n : ℕ) (kept : Kept b) (opened : b .state ≡ the-varia
       (sym (length-append (graph-of a) (spare (a .rows))) ∙ j .capacity ∙ length-append (graph-of b) (spare (b .rows)))
       same-cells
 
-  pub reduces : Reduces b a (Ok n)
+  pub reduces : Reduced-so b a (Ok n)
   reduces = record {
     sound = ∣ kept-fresh a is-open (ap length (j .items) ∙ kept .table) (omega (arith, was .some-item, j .item-count)) (omega (arith, was .few, j .item-count))
         (omega (arith, was .nodes, fewer)) (omega (arith, was .room, fewer, ap length same-cells)) layers flow-none ∣₁;

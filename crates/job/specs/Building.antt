@@ -68,7 +68,7 @@ pub record Joined (before after : Core) (n : ℕ) : Type 0 where
   pub capacity : length (row-memory after) ≡ length (row-memory before)
 
 -- Reduce. All cells keep their content; the rows past the new number of nodes may hold anything.
-pub record Reduces (before after : Core) (r : Result ℕ Refusal) : Type 0 where
+pub record Reduced-so (before after : Core) (r : Result ℕ Refusal) : Type 0 where
   pub sound : Sound after
   pub step : step (size before) (view before) Reduce ≡ (answered nodes r, view after)
   pub room : Same-room before after

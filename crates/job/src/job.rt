@@ -7,11 +7,15 @@ ghost use denote.Ref.{name};
 ghost use Rattle.std.specs.Results.{Cases, isOk};
 ghost use Rattle.lists.specs.Entries.{spare};
 ghost use Rattle.flow.specs.Job.{Answer, Call, Fact, Question, Reply, View};
+ghost use Rattle.graph.specs.Laws.{Joins-fix, Reduces, Spells-patterns};
+ghost use Rattle.graph.specs.Numbering.{Compiled-stepped, Numbering-fixed};
+ghost use Rattle.flow.specs.Exact.{Models-exactly};
 ghost use Rattle.flow.specs.Law.{Packs-soundly};
+ghost use Rattle.lp.specs.Reading.{Graphs-read-back};
 ghost use Rattle.job.specs.View.{size, view, answered, plain, worth, packed, node, quantity, phase-of, Asked};
 ghost use Rattle.job.specs.Sound.{Sound};
 ghost use Rattle.job.specs.Contract.{Follows};
-ghost use Rattle.job.specs.Building.{Compiles, Reduces, text-in};
+ghost use Rattle.job.specs.Building.{Compiles, Reduced-so, text-in};
 ghost use Rattle.packing.specs.Given.{orders-of};
 use crate::state::Acceptance;
 use crate::state::Core;
@@ -85,29 +89,37 @@ impl<'a> Job<'a> {
     }
 
     // Opens the job with the graph of the items and no flow, and answers the number of nodes. The load of node n then lies at
-    // place n of `loads`.
+    // place n of `loads`. The paths of the graph are the patterns of the items, and its plain rule leaves no other graph.
     pub fn compile<K: Kind>(
         &mut self,
         kind: &K,
         items: &[Item<'_>],
         loads: &mut [K::Load],
     ) -> Result<usize, Refusal>
-        ensures { λ r. ⌜ Compiles amount (meaning (now (kind .entry))) (orders-of (now (items .entry))) (now (self .entry) .core) (now (self .exit) .core) (now (loads .entry)) (now (loads .exit)) r ⌝ }
+        ensures compiled { λ r. ⌜ Compiles amount (meaning (now (kind .entry))) (orders-of (now (items .entry))) (now (self .entry) .core) (now (self .exit) .core) (now (loads .entry)) (now (loads .exit)) r ⌝ }
+        ensures spells { λ _. ⌜ Spells-patterns ⌝ }
+        ensures numbered { λ _. ⌜ Compiled-stepped ⌝ ∗ ⌜ Numbering-fixed ⌝ }
     {
         self.core.compile(kind, items, loads)
     }
 
-    // Joins the nodes with equal futures, and answers how many nodes are left.
+    // Joins the nodes with equal futures, and answers how many nodes are left. The paths spell what they spelled, and the rule of
+    // joining leaves no other graph.
     pub fn reduce(&mut self) -> Result<usize, Refusal>
-        ensures { λ r. ⌜ Reduces (now (self .entry) .core) (now (self .exit) .core) r ⌝ }
+        ensures reduced { λ r. ⌜ Reduced-so (now (self .entry) .core) (now (self .exit) .core) r ⌝ }
+        ensures keeps { λ _. ⌜ Reduces ⌝ }
+        ensures joined { λ _. ⌜ Joins-fix ⌝ }
     {
         self.core.reduce()
     }
 
-    // Writes the model text at the start of the memory, and answers its length.
+    // Writes the model text at the start of the memory, and answers its length. The model has a solution of value z if and only if
+    // there is a packing in z bins, and the text tells the whole model.
     pub fn model_text(&self, out: &mut [u8]) -> Result<usize, Refusal>
         ensures step { λ r. ⌜ Asked (now (self .entry) .core) (Question.ModelText (length (now (out .entry)))) (answered (text-in (now (out .exit))) r) ⌝ }
         ensures past { λ r. ⌜ Cases r (λ n. drop n (now (out .exit)) ≡ drop n (now (out .entry))) (λ _. now (out .exit) ≡ now (out .entry)) ⌝ }
+        ensures exact { λ _. ⌜ Models-exactly ⌝ }
+        ensures legible { λ _. ⌜ Graphs-read-back ⌝ }
     {
         self.core.model_text(out)
     }

@@ -4,7 +4,7 @@ ghost use Rattle.std.specs.declared.option.Option.the-variants.{None};
 ghost use Rattle.flow.specs.Job.{loaded};
 ghost use Rattle.job.specs.View.{content};
 ghost use Rattle.job.specs.Sound.{Loaded, Sound};
-ghost use Rattle.job.specs.Building.{Joined, Reduces};
+ghost use Rattle.job.specs.Building.{Joined, Reduced-so};
 use crate::state::Core;
 use crate::state::State;
 use flow::scans;
@@ -35,7 +35,7 @@ impl<'a> Core<'a> {
     // Joins the nodes with equal futures, and answers how many nodes are left. Refused while an arc carries flow.
     pub(crate) fn reduce(&mut self) -> Result<usize, Refusal>
         requires { ⌜ Sound (now self) ⌝ }
-        ensures { λ r. ⌜ Reduces (now (self .entry)) (now (self .exit)) r ⌝ }
+        ensures { λ r. ⌜ Reduced-so (now (self .entry)) (now (self .exit)) r ⌝ }
     {
         let State::Open = self.state else {
             return Err(Refusal::WrongState);
