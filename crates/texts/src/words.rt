@@ -17,7 +17,7 @@ fn starts_well(bytes: &[u8]) -> bool
 }
 
 // The number that decimal digits without a leading zero spell, up to the largest.
-pub fn parse_decimal(bytes: &[u8]) -> Option<u32>
+pub(crate) fn parse_decimal(bytes: &[u8]) -> Option<u32>
     ensures { λ r. ⌜ r ≡ number-of (now (bytes .entry)) ⌝ }
 {
     if !starts_well(bytes) {

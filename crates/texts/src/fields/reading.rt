@@ -33,7 +33,7 @@ pub(crate) fn classify<'t>(part: Part<'t>) -> Field<'t>
 
 impl<'t> Fields<'t> {
     // All fields of a line.
-    pub fn new(text: &'t [u8], line: usize) -> Self
+    pub(crate) fn new(text: &'t [u8], line: usize) -> Self
         ensures { λ r. ⌜ AllFields (now (text .entry)) line r ⌝ }
     {
         Fields {
@@ -64,7 +64,7 @@ impl<'t> Fields<'t> {
     }
 
     // The next field.
-    pub fn next(&mut self) -> Option<Field<'t>>
+    pub(crate) fn next(&mut self) -> Option<Field<'t>>
         ensures { λ r. ⌜ Cases r (FieldsEnded (now (self .entry)) (now (self .exit))) (λ field. FieldGiven (now (self .entry)) field (now (self .exit))) ⌝ }
     {
         match self.part() {
@@ -74,7 +74,7 @@ impl<'t> Fields<'t> {
     }
 
     // The next field, where it is a letter.
-    pub fn letter(&mut self) -> Option<char>
+    pub(crate) fn letter(&mut self) -> Option<char>
         ensures value { λ r. ⌜ r ≡ first-letter (words-left (now (self .entry))) ⌝ }
         ensures moved { λ r. ⌜ Cases r (Unit {0}) (λ _. Moved 1 (now (self .entry)) (now (self .exit))) ⌝ }
     {
@@ -107,7 +107,7 @@ impl<'t> Fields<'t> {
     }
 
     // Refuses unless just `n` fields are left, none of them empty.
-    pub fn expect(&self, n: usize) -> Result<(), Refusal>
+    pub(crate) fn expect(&self, n: usize) -> Result<(), Refusal>
         ensures { λ r. ⌜ r ≡ shape (now (self .entry) .line) n (words-left (now (self .entry))) ⌝ }
     {
         if self.has_just(n) {
@@ -118,7 +118,7 @@ impl<'t> Fields<'t> {
     }
 
     // The next field as a number from `low` to `high`.
-    pub fn number(&mut self, low: u32, high: u32) -> Result<u32, Refusal>
+    pub(crate) fn number(&mut self, low: u32, high: u32) -> Result<u32, Refusal>
         ensures value { λ r. ⌜ r ≡ number-at low high (now (self .entry) .line) (now (self .entry) .number + 1) (words-left (now (self .entry))) ⌝ }
         ensures range { λ r. ⌜ made r (λ n. (low ≤ n) × (n ≤ high)) ⌝ }
         ensures moved { λ r. ⌜ made r (λ _. Moved 1 (now (self .entry)) (now (self .exit))) ⌝ }
@@ -157,7 +157,7 @@ impl<'t> Fields<'t> {
     }
 
     // The one field that is left, as a number from `low` to `high`.
-    pub fn sole_number(mut self, low: u32, high: u32) -> Result<u32, Refusal>
+    pub(crate) fn sole_number(mut self, low: u32, high: u32) -> Result<u32, Refusal>
         ensures value { λ r. ⌜ r ≡ sole-number low high (self .entry .line) (self .entry .number + 1) (words-left (self .entry)) ⌝ }
         ensures range { λ r. ⌜ made r (λ n. (low ≤ n) × (n ≤ high)) ⌝ }
     {

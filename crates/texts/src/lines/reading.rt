@@ -40,7 +40,7 @@ fn is_well_formed(text: &[u8]) -> bool
 }
 
 // Refuses a text that is empty, too long or without its last line feed.
-pub fn check_text(text: &[u8]) -> Result<(), Refusal>
+pub(crate) fn check_text(text: &[u8]) -> Result<(), Refusal>
     ensures { λ r. ⌜ r ≡ formed (now (text .entry)) ⌝ }
 {
     if is_well_formed(text) {
@@ -52,7 +52,7 @@ pub fn check_text(text: &[u8]) -> Result<(), Refusal>
 
 impl<'t> Lines<'t> {
     // All lines of a text.
-    pub fn new(text: &'t [u8]) -> Self
+    pub(crate) fn new(text: &'t [u8]) -> Self
         ensures { λ r. ⌜ AllLines (now (text .entry)) r ⌝ }
     {
         Lines {
@@ -63,7 +63,7 @@ impl<'t> Lines<'t> {
     }
 
     // How many lines were handed out, which is the number of the latest.
-    pub fn number(&self) -> usize
+    pub(crate) fn number(&self) -> usize
         ensures { λ r. ⌜ r ≡ now (self .entry) .number ⌝ }
     {
         self.number
@@ -85,7 +85,7 @@ impl<'t> Lines<'t> {
     }
 
     // The next line, which has to be there and to be printable.
-    pub fn line(&mut self) -> Result<&'t [u8], Refusal>
+    pub(crate) fn line(&mut self) -> Result<&'t [u8], Refusal>
         ensures value { λ r. ⌜ seen r ≡ line-at (now (self .entry) .number + 1) (lines-left (now (self .entry))) ⌝ }
         ensures moved { λ r. ⌜ made r (λ _. LinesMoved 1 (now (self .entry)) (now (self .exit))) ⌝ }
     {
@@ -102,7 +102,7 @@ impl<'t> Lines<'t> {
     }
 
     // Refuses if a line is left.
-    pub fn end(mut self) -> Result<(), Refusal>
+    pub(crate) fn end(mut self) -> Result<(), Refusal>
         ensures { λ r. ⌜ r ≡ end-at (self .entry .number + 1) (lines-left (self .entry)) ⌝ }
     {
         match self.next() {
