@@ -13,7 +13,7 @@ use std::test::*;
 
 // What a test expects, and did not get. (An error that holds a text would hold a reference beside a struct with a ghost field.)
 #[derive(Debug, Drop)]
-struct Missing;
+pub(crate) struct Missing;
 
 #[test]
 fn ranges() -> Result<(), Fail> {
