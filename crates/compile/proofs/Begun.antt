@@ -1,4 +1,4 @@
--- The graph item by item. Assumes nothing.
+-- The graph item by item.
 use mathlib.Core.Path.{_≡_, refl, sym, ap, subst, _∙_}
 use mathlib.Core.List.{List, [], _∷_, _++_, map}
 use Prim.Native.Nat.{ℕ, suc, _+_, _≤_}

@@ -1,4 +1,4 @@
--- Lists over lent memory grow step by step. Assumes nothing.
+-- Lists over lent memory grow step by step.
 use mathlib.Core.Path.{_≡_, refl, ap, _∙_}
 use mathlib.Core.List.{List, [], _∷_}
 use Prim.Native.Nat.{ℕ, _+_, _-_, _≤_}

@@ -1,4 +1,4 @@
--- Arcs led one after the other: one node more. Assumes nothing.
+-- Arcs led one after the other: one node more.
 use mathlib.Core.Path.{_≡_, refl, sym, ap, _∙_}
 use mathlib.Core.Bool.{Bool, true, false, cond}
 use mathlib.Core.List.{List, [], _∷_, _++_, map}

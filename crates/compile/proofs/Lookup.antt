@@ -1,4 +1,4 @@
--- Looking for an amount, and adding it. Assumes nothing.
+-- Looking for an amount, and adding it.
 use mathlib.Core.Path.{_≡_, refl, sym, ap, subst, _∙_}
 use mathlib.Core.Bool.{Bool, true, false, cond}
 use mathlib.Core.List.{List, [], _∷_, _++_, map}

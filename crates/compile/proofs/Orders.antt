@@ -1,4 +1,4 @@
--- Items with which nothing is wrong, one by one. Assumes nothing.
+-- Items with which nothing is wrong, one by one.
 use mathlib.Core.Path.{_≡_, refl, sym, ap, subst, _∙_}
 use mathlib.Core.Bool.{Bool, true, false, cond, _&&_, _||_}
 use mathlib.Core.List.{List, [], _∷_, _++_}

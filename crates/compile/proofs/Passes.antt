@@ -1,4 +1,4 @@
--- An item that is complete: the pass arcs of all its nodes. Assumes nothing.
+-- An item that is complete: the pass arcs of all its nodes.
 use mathlib.Core.Path.{_≡_, refl, sym, ap, _∙_}
 use mathlib.Core.List.{List, [], _∷_, _++_, map}
 use Prim.Native.Nat.{ℕ, zero, suc, _+_, _-_, _≤_}

@@ -1,4 +1,4 @@
--- The loop over the items, and the last item, at their lists. Assumes nothing.
+-- The loop over the items, and the last item, at their lists.
 use mathlib.Core.Path.{_≡_, refl, sym, ap, subst, _∙_}
 use mathlib.Core.List.{List, [], _∷_, map}
 use Prim.Native.Nat.{ℕ, suc, _+_, _≤_, _<_}

@@ -1,4 +1,4 @@
--- The loop over the copies of one item, at its lists. Assumes nothing.
+-- The loop over the copies of one item, at its lists.
 use mathlib.Core.Path.{_≡_, refl, sym, subst, _∙_}
 use mathlib.Core.List.{List, [], map}
 use Prim.Native.Nat.{ℕ, _+_, _-_, _≤_, _<_}

@@ -1,4 +1,4 @@
--- Pass arcs to the target, led one after the other. Assumes nothing.
+-- Pass arcs to the target, led one after the other.
 use mathlib.Core.Path.{_≡_, sym, ap, _∙_}
 use mathlib.Core.List.{List, [], _∷_, _++_, map}
 use Prim.Native.Nat.{ℕ, _+_, _-_, _≤_, _<_}

@@ -1,4 +1,4 @@
--- One whole item, at its lists. Assumes nothing.
+-- One whole item, at its lists.
 use mathlib.Core.Path.{_≡_, sym, ap, subst, _∙_}
 use mathlib.Core.List.{List, [], _∷_, _++_, map}
 use Prim.Native.Nat.{ℕ, suc, _+_, _-_, _≤_}

@@ -1,4 +1,4 @@
--- The arcs from a run of nodes, led one after the other. Assumes nothing.
+-- The arcs from a run of nodes, led one after the other.
 use mathlib.Core.Path.{_≡_}
 use mathlib.Core.Bool.{false}
 use mathlib.Core.List.{List, [], _∷_, _++_, map}

@@ -1,4 +1,4 @@
--- The whole graph. Assumes nothing.
+-- The whole graph.
 use mathlib.Core.Path.{_≡_}
 use mathlib.Core.List.{List, [], _++_, map}
 use Prim.Native.Nat.{ℕ, suc, _+_, _≤_}

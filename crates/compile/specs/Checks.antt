@@ -1,4 +1,4 @@
--- The answer of the check on items. Assumes nothing.
+-- The answer of the check on items.
 use Prim.Native.Nat.{ℕ}
 use Rattle.std.specs.declared.option.Option.{Option}
 use Rattle.std.specs.declared.option.Option.the-variants.{Some, None}

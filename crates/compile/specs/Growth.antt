@@ -1,4 +1,4 @@
--- How lists over lent memory grow, and when two memories are too small. Assumes nothing.
+-- How lists over lent memory grow, and when two memories are too small.
 use mathlib.Core.Path.{_≡_}
 use Prim.Native.Nat.{ℕ, _+_, _-_, _≤_}
 use lib.ListN.{length, drop}

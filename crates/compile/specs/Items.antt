@@ -1,4 +1,4 @@
--- One item's part of the graph. Assumes nothing.
+-- One item's part of the graph.
 use mathlib.Core.Path.{_≡_}
 use mathlib.Core.List.{List, [], _∷_, _++_, map}
 use Prim.Native.Nat.{ℕ, suc, _+_}

@@ -1,4 +1,4 @@
--- What looking up or adding a node leaves, and rows with an arc set. Assumes nothing.
+-- What looking up or adding a node leaves, and rows with an arc set.
 use mathlib.Core.Path.{_≡_}
 use mathlib.Core.Bool.{cond}
 use mathlib.Core.List.{List, [], _∷_, _++_}

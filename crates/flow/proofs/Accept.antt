@@ -1,4 +1,4 @@
--- What accept tests, and that it is what the model's rows ask. Assumes nothing.
+-- What accept tests, and that it is what the model's rows ask.
 use mathlib.Core.Path.{_≡_, refl, sym, ap, ap₂, _∙_}
 use mathlib.Core.Logic.{_⊎_, inl, inr}
 use mathlib.Core.List.{List, [], _∷_, _++_}

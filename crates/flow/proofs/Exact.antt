@@ -1,4 +1,4 @@
--- The model's solutions are the packings: a flow comes apart into bins, and bins add up to a flow. Assumes nothing.
+-- The model's solutions are the packings: a flow comes apart into bins, and bins add up to a flow.
 use mathlib.Core.Path.{_≡_, sym, subst, _∙_}
 use mathlib.Core.Logic.{_⊎_, inl, inr}
 use mathlib.Core.List.{List, [], _∷_}

@@ -1,4 +1,4 @@
--- The inflow of every node, arc by arc. Assumes nothing.
+-- The inflow of every node, arc by arc.
 use mathlib.Core.Path.{_≡_, sym, ap, _∙_}
 use mathlib.Core.Bool.{Bool, true, false, cond}
 use mathlib.Core.Logic.{_⊎_, inl, inr}

@@ -1,4 +1,4 @@
--- Any packing can be placed, and is accepted. Assumes nothing.
+-- Any packing can be placed, and is accepted.
 use mathlib.Core.Path.{_≡_, refl, sym, ap, _∙_}
 use mathlib.Core.Logic.{_⊎_, inl, inr, _↔_}
 use mathlib.Core.List.{List, [], _∷_, _++_}

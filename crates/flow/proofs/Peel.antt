@@ -1,5 +1,5 @@
 -- Peeling a bin off a balanced flow: the walk is a path of carrying arcs, and what it takes off leaves a balanced flow
--- with fewer carrying arcs. Assumes nothing.
+-- with fewer carrying arcs.
 use mathlib.Core.Path.{_≡_, refl, sym, ap, subst, _∙_}
 use mathlib.Core.Logic.{_⊎_, inl, inr, ⊎-elim, _≢_}
 use mathlib.Core.List.{List, [], _∷_}

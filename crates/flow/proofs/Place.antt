@@ -1,4 +1,4 @@
--- Placing a path: balance stays, the value grows by the times, the copies by times × count. Assumes nothing.
+-- Placing a path: balance stays, the value grows by the times, the copies by times × count.
 use mathlib.Core.Path.{_≡_, refl, sym, ap, subst, _∙_}
 use mathlib.Core.Logic.{_⊎_, inl, inr}
 use mathlib.Core.List.{List, [], _∷_}

@@ -1,4 +1,4 @@
--- The steps of the walk along a path that spells some counts. Assumes nothing.
+-- The steps of the walk along a path that spells some counts.
 use mathlib.Core.Path.{_≡_, refl, sym, ap, _∙_}
 use mathlib.Core.Bool.{Bool, true, false, _||_, cond}
 use mathlib.Core.Logic.{_⊎_, inl, inr, ⊎-elim, _≢_}

@@ -1,4 +1,4 @@
--- A flow is accepted if and only if it meets every row of the model and its value is within the limit. Assumes nothing.
+-- A flow is accepted if and only if it meets every row of the model and its value is within the limit.
 use mathlib.Core.Path.{_≡_, refl, sym, ap, subst, _∙_}
 use mathlib.Core.Logic.{_⊎_, inl, inr, _↔_}
 use mathlib.Core.List.{List, [], _∷_, _++_, map}

@@ -1,4 +1,4 @@
--- The law over whole runs. Assumes nothing.
+-- The law over whole runs.
 use mathlib.Core.Path.{_≡_, refl, sym, ap, subst, _∙_}
 use mathlib.Core.Logic.{_↔_}
 use mathlib.Core.List.{List, [], _∷_}

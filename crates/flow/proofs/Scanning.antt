@@ -1,4 +1,4 @@
--- The steps of scans. Assumes nothing.
+-- The steps of scans.
 use mathlib.Core.Path.{_≡_, refl, sym, ap, _∙_}
 use mathlib.Core.Bool.{Bool, true, false, cond, not, _&&_}
 use mathlib.Core.Logic.{_⊎_, inl, inr}

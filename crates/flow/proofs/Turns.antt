@@ -1,4 +1,4 @@
--- The steps of the walks of a peel. Assumes nothing.
+-- The steps of the walks of a peel.
 use mathlib.Core.Path.{_≡_, refl, sym, ap, subst, _∙_}
 use mathlib.Core.Bool.{Bool, true, false, cond}
 use mathlib.Core.Logic.{_⊎_, inl, inr}

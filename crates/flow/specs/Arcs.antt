@@ -1,4 +1,4 @@
--- The arcs of a graph by rising number: those into a node, out of a node, and the take arcs of an item. Assumes nothing.
+-- The arcs of a graph by rising number: those into a node, out of a node, and the take arcs of an item.
 use mathlib.Core.List.{List, [], _∷_, _++_}
 use mathlib.Core.Bool.{Bool, false, cond, _&&_}
 use Prim.Native.Nat.{ℕ, zero, suc, _*_}
@@ -15,6 +15,7 @@ abbrev pub numbers : (ℕ → Bool) → ℕ → List ℕ
 numbers p zero = []
 numbers p (suc n) = numbers p n ++ cond (p n) (n ∷ []) []
 
+-- an arc leads to node v
 abbrev pub is : Option ℕ → ℕ → Bool
 is None v = false
 is (Some k) v = eqb k v
@@ -35,5 +36,6 @@ arcs-out g v = cond (isSome (at g v .pass)) (pass-arc v ∷ []) [] ++ cond (isSo
 abbrev pub takes-item : List Row → ℕ → ℕ → Bool
 takes-item g i a = takes a && (isSome (head g a) && eqb (at g (tail a) .item) i)
 
+-- the take arcs of item i, by rising number
 abbrev pub item-arcs : List Row → ℕ → List ℕ
 item-arcs g i = numbers (takes-item g i) (2 * length g)

@@ -1,4 +1,4 @@
--- Worked cases: small problems with their graphs, patterns and calls written out. Assumes nothing.
+-- Worked cases: small problems with their graphs, patterns and calls written out.
 use mathlib.Core.Path.{_≡_}
 use mathlib.Core.List.{List, [], _∷_, _++_}
 use Prim.Native.Nat.{ℕ}
@@ -30,6 +30,7 @@ boards-and-rails = order (3 ∷ []) 1 ∷ order (2 ∷ []) 2 ∷ []
 abbrev pub red-and-blue : List Order
 red-and-blue = order (0 ∷ []) 2 ∷ order (1 ∷ []) 1 ∷ []
 
+-- the graph of boards and rails in a length of 5
 abbrev pub graph-of-five : List Row
 graph-of-five =
     row 1 0 (Some 1) (Some 2) ∷ row 1 1 None (Some 3) ∷ row 2 0 (Some 4) (Some 7) ∷ row 2 0 (Some 5) (Some 7)
@@ -60,6 +61,7 @@ amount x = Done (Told (Amount x))
 abbrev ones : List Call
 ones = Carry 0 1 ∷ Carry 1 1 ∷ Carry 2 1 ∷ Carry 5 1 ∷ Carry 7 1 ∷ Carry 8 1 ∷ Carry 10 1 ∷ []
 
+-- what the definitions give in the worked cases
 pub record Marked-cases : Type 0 where
   -- length 5: eight nodes with their arcs, five patterns
   pub five : step plain Empty (Compile (length-meaning 5) boards-and-rails 512) ≡ (Done (Nodes 8), Open (fresh graph-of-five (1 ∷ 2 ∷ [])))

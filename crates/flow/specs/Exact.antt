@@ -1,4 +1,4 @@
--- The model is exact: it has a solution of value z if and only if there is a packing in z bins. Assumes nothing.
+-- The model is exact: it has a solution of value z if and only if there is a packing in z bins.
 use mathlib.Core.Path.{_≡_}
 use mathlib.Core.Logic.{_↔_}
 use mathlib.Core.List.{List}
@@ -16,6 +16,7 @@ use Rattle.flow.specs.Model.{model, Meets}
 abbrev pub Solution : Problem → List Row → ℕ → Type 0
 Solution p g z = (f : List ℕ) × OnArcs g f × Meets z f (model g (demands (p .orders)))
 
+-- the model of this graph has a solution of value z just where the problem has a packing in z bins
 abbrev pub Exact : Problem → List Row → Type 0
 Exact p g = (z : ℕ) → Solution p g z ↔ ((bins : List Bin) × Packing p bins z)
 

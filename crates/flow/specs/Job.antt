@@ -1,4 +1,4 @@
--- A job and its calls: what each answers, when it refuses, and what it leaves. Assumes nothing.
+-- A job and its calls: what each answers, when it refuses, and what it leaves.
 use mathlib.Core.List.{List, [], _∷_}
 use mathlib.Core.Bool.{Bool, false, cond, not, _&&_, _||_}
 use Prim.Native.Nat.{ℕ, suc, _+_, _-_, _*_, min}
@@ -36,6 +36,7 @@ pub data View : Type 0 where
   Open : Content → View
   Accepted : Content → View
 
+-- what a job can be asked
 pub data Question : Type 0 where
   State ValueLeft : Question
   RowOf FlowOf CopiesLeft : ℕ → Question
@@ -53,6 +54,7 @@ pub data Call : Type 0 where
   Clear : Call
   Ask : Question → Call
 
+-- the states of a job
 pub data Phase : Type 0 where
   IsEmpty IsOpen IsAccepted : Phase
 
@@ -72,10 +74,12 @@ pub data Reply : Type 0 where
   Packed : Bin → Reply
   Told : Fact → Reply
 
+-- a call is refused, or it is done and replies
 pub data Answer : Type 0 where
   Refused : Refusal → Answer
   Done : Reply → Answer
 
+-- 0 on every arc
 abbrev pub no-flow : List Row → List ℕ
 no-flow g = replicate (2 * length g) 0
 
@@ -83,9 +87,11 @@ no-flow g = replicate (2 * length g) 0
 abbrev pub fresh : List Row → List ℕ → Content
 fresh g wanted = record { graph = g; flow = no-flow g; demands = wanted }
 
+-- the same graph and demands with another flow
 abbrev pub with-flow : Content → List ℕ → Content
 with-flow j f = record { graph = j .graph; flow = f; demands = j .demands }
 
+-- the first of a list
 abbrev pub first : List ℕ → Option ℕ
 first [] = None
 first (x ∷ xs) = Some x
@@ -119,9 +125,11 @@ overflows f times (a ∷ arcs) = ltb limit (on f a + times) || overflows f times
 abbrev pub next-arcs : Content → List ℕ
 next-arcs j = trail (length (j .graph)) (j .graph) (j .flow) 0
 
+-- the bin that is peeled next
 abbrev pub next-bin : Content → Bin
 next-bin j = record { counts = spelled (next-arcs j); times = least (j .flow) (next-arcs j) }
 
+-- what a call answers, and the job that it leaves
 abbrev pub Outcome : Type 0
 Outcome = Answer × View
 
@@ -138,14 +146,17 @@ refuse-at v r (Some a) otherwise = refuse v (r a)
 abbrev pub opened : ℕ → List Row → List ℕ → Outcome
 opened room g wanted = cond (leb (length g) room) (Done (Nodes (length g)), Open (fresh g wanted)) (refuse Empty TooManyNodes)
 
+-- Opens the job with the graph of the orders and no flow.
 abbrev pub compile : ℕ → View → Meaning → List Order → ℕ → Outcome
 compile size v k orders loads = refuse-at v BadItem (flaw k orders) (opened (min (size) loads) (compiled k (items k orders)) (demands orders))
 
+-- Joins the nodes with equal futures; refused while an arc carries flow.
 abbrev pub reduce : View → Outcome
 reduce Empty = refuse Empty WrongState
 reduce (Accepted j) = refuse (Accepted j) WrongState
 reduce (Open j) = refuse-at (Open j) CarriesFlow (loaded j) (Done (Nodes (length (reduced (j .graph)))), Open (fresh (reduced (j .graph)) (j .demands)))
 
+-- Sets the flow of one arc that is there.
 abbrev pub carry : View → ℕ → ℕ → Outcome
 carry Empty a x = refuse Empty WrongState
 carry (Accepted j) a x = refuse (Accepted j) WrongState
@@ -158,11 +169,13 @@ abbrev pub place-on : Content → ℕ → Option (List ℕ) → Outcome
 place-on j times None = refuse (Open j) NoPattern
 place-on j times (Some arcs) = cond (overflows (j .flow) times arcs) (refuse (Open j) ArcOverLimit) (Done Plain, Open (with-flow j (push (j .flow) arcs times)))
 
+-- Adds `times` along the path that spells the counts.
 abbrev pub place : View → List ℕ → ℕ → Outcome
 place Empty counts times = refuse Empty WrongState
 place (Accepted j) counts times = refuse (Accepted j) WrongState
 place (Open j) counts times = cond (eqb times 0 || ltb limit times) (refuse (Open j) FlowOutOfRange) (place-on j times (path-of j counts))
 
+-- Accepts a flow that is balanced, within the limit, and covers the demands.
 abbrev pub accept : View → Outcome
 accept Empty = refuse Empty WrongState
 accept (Accepted j) = refuse (Accepted j) WrongState
@@ -172,6 +185,7 @@ accept (Open j) =
     (refuse-at (Open j) BelowDemand (lacking j)
     (Done (Worth (value (j .flow)) (carrying (j .flow))), Accepted j)))
 
+-- Takes the next bin off the flow.
 abbrev pub peel : View → ℕ → Outcome
 peel Empty cells = refuse Empty WrongState
 peel (Open j) cells = refuse (Open j) WrongState
@@ -180,6 +194,7 @@ peel (Accepted j) cells =
     (cond (ltb cells (length (j .demands))) (refuse (Accepted j) TooLittleMemory)
     (Done (Packed (next-bin j)), Accepted (with-flow j (pull (j .flow) (next-arcs j) (next-bin j .times)))))
 
+-- Sets all flow to 0.
 abbrev pub clear : View → Outcome
 clear Empty = refuse Empty WrongState
 clear (Open j) = (Done Plain, Open (fresh (j .graph) (j .demands)))
@@ -191,18 +206,23 @@ phase Empty = IsEmpty
 phase (Open j) = IsOpen
 phase (Accepted j) = IsAccepted
 
+-- a question is answered
 abbrev pub told : Fact → Answer
 told x = Done (Told x)
 
+-- the row of node n, if it is there
 abbrev pub row-of : ℕ → Content → Answer
 row-of n j = cond (ltb n (length (j .graph))) (told (Node (at (j .graph) n))) (Refused (Absent n))
 
+-- the flow of arc a, if it is there
 abbrev pub flow-of : ℕ → Content → Answer
 flow-of a j = cond (isSome (head (j .graph) a)) (told (Amount (on (j .flow) a))) (Refused (Absent a))
 
+-- the copies of item i, if it is there
 abbrev pub copies-left : ℕ → Content → Answer
 copies-left i j = cond (ltb 0 i && leb i (length (j .demands))) (told (Amount (copies-of (j .graph) (j .flow) i))) (Refused (Absent i))
 
+-- a text, where there is room for its bytes
 abbrev pub written : List ℕ → ℕ → Answer
 written text bytes = cond (leb (length text) bytes) (told (Text text)) (Refused TooLittleMemory)
 
@@ -212,11 +232,13 @@ unless-empty answer Empty = Refused WrongState
 unless-empty answer (Open j) = answer j
 unless-empty answer (Accepted j) = answer j
 
+-- an answer that only an accepted job has
 abbrev pub when-accepted : (Content → Answer) → View → Answer
 when-accepted answer Empty = Refused WrongState
 when-accepted answer (Open j) = Refused WrongState
 when-accepted answer (Accepted j) = answer j
 
+-- what a job answers to a question
 abbrev pub ask : ℕ → View → Question → Answer
 ask size v State = told (Is (phase v))
 ask size v ValueLeft = when-accepted (λ j. told (Amount (value (j .flow)))) v

@@ -1,6 +1,5 @@
 -- The law over whole runs: whatever calls follow one another on a new job, its graph spells the patterns of the problem last
 -- compiled, the bins handed out and what is left add up to what was accepted, and every packing can be placed and is accepted.
--- Assumes nothing.
 use mathlib.Core.Path.{_≡_}
 use mathlib.Core.Logic.{_↔_}
 use mathlib.Core.List.{List, [], _∷_, _++_, map}
@@ -50,11 +49,13 @@ pub record History : Type 0 where
   pub accepted : Option Acceptance
   pub handed : List Bin
 
+-- the flow of a job
 abbrev pub flow-in : View → List ℕ
 flow-in Empty = []
 flow-in (Open j) = j .flow
 flow-in (Accepted j) = j .flow
 
+-- the later of two problems, where it is there
 abbrev pub newer : Option Problem → Option Problem → Option Problem
 newer None before = before
 newer (Some p) before = Some p
@@ -73,9 +74,11 @@ pub record Moment : Type 0 where
   pub view : View
   pub history : History
 
+-- an empty job of which nothing is on record
 abbrev pub new-job : Moment
 new-job = record { view = Empty; history = record { problem = None; accepted = None; handed = [] } }
 
+-- the moment after one more call
 abbrev pub after : ℕ → Moment → Call → Moment
 after size t c = record { view = step size (t .view) c .1; history = noted (t .history) c (step size (t .view) c .0) (step size (t .view) c .1) }
 
@@ -95,6 +98,7 @@ pub record Spells (p : Problem) (g : List Row) : Type 0 where
   pub a-path : (counts : List ℕ) → Pattern p counts → (arcs : List ℕ) × Path g 0 arcs counts
   pub one-path : (counts a b : List ℕ) → Path g 0 a counts → Path g 0 b counts → a ≡ b
 
+-- a place for each bin
 abbrev pub placed : List Bin → List Call
 placed bins = map (λ b. Place (b .counts) (b .times)) bins
 
@@ -104,6 +108,7 @@ Takes-packings size p j =
     (bins : List Bin) (z : ℕ) → Packing p bins z → z ≤ limit →
     (arcs : ℕ) × (answers size (Open j) (placed bins ++ (Accept ∷ [])) ≡ replicate (length bins) (Done Plain) ++ (Done (Worth z arcs) ∷ []))
 
+-- no arc carries flow
 abbrev pub Without-flow : Content → Type 0
 Without-flow j = (a : ℕ) → on (j .flow) a ≡ 0
 
@@ -147,6 +152,7 @@ pub record Accepted-holds (size : ℕ) (h : History) (j : Content) : Type 0 wher
   -- once no value is left, the bins handed out are a packing in z bins
   pub packs : value (j .flow) ≡ 0 → Packing problem (h .handed) (acceptance .z)
 
+-- what holds of a job: of an empty one nothing
 abbrev pub Holds : ℕ → History → View → Type 0
 Holds size h Empty = Unit {0}
 Holds size h (Open j) = Open-holds size h j

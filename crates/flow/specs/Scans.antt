@@ -1,4 +1,4 @@
--- What scans of a graph and its flow need and tell. Assumes nothing.
+-- What scans of a graph and its flow need and tell.
 use mathlib.Core.Path.{_≡_}
 use mathlib.Core.List.{List, map}
 use Prim.Native.Nat.{ℕ, _*_, _≤_, _<_}
@@ -15,9 +15,11 @@ use Rattle.flow.specs.Job.{limit, Content}
 abbrev pub no-item : ItemRecord
 no-item = record { demand = 0; left = 0 }
 
+-- the demands in the records
 abbrev pub demands-of : List ItemRecord → List ℕ
 demands-of items = map (λ (i : ItemRecord). i .demand) items
 
+-- a graph with this flow and these demands
 abbrev pub holding : List Row → List ℕ → List ℕ → Content
 holding g f demands = record { graph = g; flow = f; demands = demands }
 

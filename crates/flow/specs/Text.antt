@@ -1,4 +1,4 @@
--- The text of a model. Assumes nothing.
+-- The text of a model.
 use mathlib.Core.List.{List, [], _∷_, _++_}
 use mathlib.Core.Bool.{Bool, cond, _&&_}
 use Prim.Native.Nat.{ℕ, suc, _%_}
@@ -8,6 +8,7 @@ use Rattle.std.specs.Written.{decimal}
 use Rattle.std.specs.shelf.Lists.{joined}
 use Rattle.flow.specs.Model.{Variable, Variable.Z, Variable.X, Term, Term.Plus, Term.Minus, Relation, Relation.Equal, Relation.AtLeast, Label, Label.Node, Label.Item, Constraint, Model}
 
+-- `z`, or `x` with the number of the arc
 abbrev pub variable : Variable → List ℕ
 variable Z = codes "z"
 variable (X a) = codes "x" ++ decimal a
@@ -34,17 +35,21 @@ abbrev pub entries : {A : Type 0} → (ℕ → A → List ℕ) → ℕ → List 
 entries shown k [] = []
 entries shown k (x ∷ xs) = break k ++ (shown k x ++ entries shown (suc k) xs)
 
+-- ` n` or ` d` with its number, and a colon
 abbrev pub label : Label → List ℕ
 label (Node n) = codes " n" ++ (decimal n ++ codes ":")
 label (Item i) = codes " d" ++ (decimal i ++ codes ":")
 
+-- the relation, between spaces
 abbrev pub relation : Relation → List ℕ
 relation Equal = codes " = "
 relation AtLeast = codes " >= "
 
+-- a row of the text
 abbrev pub constraint : Constraint → List ℕ
 constraint c = label (c .label) ++ (entries term 0 (c .terms) ++ (relation (c .relation) ++ (decimal (c .right) ++ codes "\n")))
 
+-- the whole text
 unfoldable pub text : Model → List ℕ
 text m =
     codes "Minimize\n obj: z\nSubject To\n"

@@ -1,4 +1,4 @@
--- What walks from the source to the target need, tell and write. Assumes nothing.
+-- What walks from the source to the target need, tell and write.
 use mathlib.Core.Path.{_≡_}
 use mathlib.Core.Bool.{Bool, cond, _||_}
 use mathlib.Core.List.{List, []}
@@ -57,6 +57,7 @@ pub record Placeable (g : List Row) (f counts : List ℕ) (times : ℕ) : Type 0
   pub layers : Layered (length counts) g
   pub few : times ≤ limit
 
+-- the arcs of a path, none where there is no path
 abbrev pub arcs-along : Option (List ℕ) → List ℕ
 arcs-along None = []
 arcs-along (Some arcs) = arcs

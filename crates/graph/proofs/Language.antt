@@ -1,4 +1,4 @@
--- The paths of a compiled graph spell exactly the patterns. Assumes nothing.
+-- The paths of a compiled graph spell exactly the patterns.
 use Prim.Native.Nat.{ℕ, zero, suc, _+_, _≤_, _<_}
 use native.Mathlib.Omega.{arith}
 use mathlib.Core.Path.{_≡_, refl, sym, ap, subst, _∙_}

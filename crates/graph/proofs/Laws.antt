@@ -1,4 +1,4 @@
--- The theorems about patterns and graphs, put together. Assumes nothing.
+-- The theorems about patterns and graphs, put together.
 use Prim.Native.Nat.{ℕ, suc, _+_}
 use native.Mathlib.Omega.{arith}
 use mathlib.Core.Path.{_≡_, refl, _∙_}

@@ -1,4 +1,4 @@
--- The compiled graph keeps the rule of numbering. Assumes nothing.
+-- The compiled graph keeps the rule of numbering.
 -- A node is known from its station and its amount: `number` says where the station begins, and which place the amount has in it.
 use Prim.Native.Nat.{ℕ, zero, suc, _+_, _-_, _≤_, _<_}
 use native.Mathlib.Omega.{arith}

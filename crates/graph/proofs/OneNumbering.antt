@@ -1,4 +1,4 @@
--- The rule of numbering leaves just one graph. Assumes nothing.
+-- The rule of numbering leaves just one graph.
 -- Node by node in rising order: graphs that agree on all nodes before n have the same arcs from them, and so the same node n.
 use Prim.Native.Nat.{ℕ, zero, suc, _≤_, _<_}
 use native.Mathlib.Omega.{arith}

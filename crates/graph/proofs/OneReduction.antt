@@ -1,4 +1,4 @@
--- The rule of joining fixes the joined graph, and its numbering. Assumes nothing.
+-- The rule of joining fixes the joined graph, and its numbering.
 use Prim.Native.Nat.{ℕ, zero, suc, _+_, _≤_, _<_}
 use native.Mathlib.Omega.{arith}
 use mathlib.Core.Path.{_≡_, refl, sym, ap, _∙_}

@@ -1,4 +1,4 @@
--- Paths, by the function that finds them: a path is fixed by its counts, and its counts by its arcs. Assumes nothing.
+-- Paths, by the function that finds them: a path is fixed by its counts, and its counts by its arcs.
 use Prim.Native.Nat.{ℕ, zero, suc, _+_, _*_, _%_}
 use native.Mathlib.Omega.{arith}
 use mathlib.Core.Path.{_≡_, refl, sym, ap, subst, _∙_}

@@ -1,4 +1,4 @@
--- A reduced graph has the shape and the language of the graph. Assumes nothing.
+-- A reduced graph has the shape and the language of the graph.
 use Prim.Native.Nat.{ℕ, zero, suc, _+_, _-_, _≤_, _<_}
 use native.Mathlib.Omega.{arith}
 use mathlib.Core.Path.{_≡_, refl, sym, ap, subst, _∙_}

@@ -1,5 +1,5 @@
 -- At every step of the building, the amounts so far stand in front of all amounts. So a loop that has no room for one more
--- knows that the graph has more nodes than there is room for. Assumes nothing.
+-- knows that the graph has more nodes than there is room for.
 use Prim.Native.Nat.{ℕ, zero, suc, _+_, _-_, _≤_, _<_}
 use native.Mathlib.Omega.{arith}
 use mathlib.Core.Path.{_≡_, refl, sym, ap, subst, _∙_}

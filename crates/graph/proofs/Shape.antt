@@ -1,4 +1,4 @@
--- A compiled graph has the shape of a graph for its items. Assumes nothing.
+-- A compiled graph has the shape of a graph for its items.
 use Prim.Native.Nat.{ℕ, zero, suc, _+_, _≤_, _<_}
 use native.Mathlib.Omega.{arith}
 use mathlib.Core.Path.{_≡_, refl, sym, ap, subst, _∙_}

@@ -1,4 +1,4 @@
--- Where the nodes of each station stand in a compiled graph, and from which amounts theirs come. Assumes nothing.
+-- Where the nodes of each station stand in a compiled graph, and from which amounts theirs come.
 use Prim.Native.Nat.{ℕ, zero, suc, _+_, _-_, _≤_, _<_}
 use native.Mathlib.Omega.{arith}
 use mathlib.Core.Path.{_≡_, refl, sym, ap, subst, _∙_}

@@ -1,4 +1,4 @@
--- The graph as a loop builds it: one more element of a station, one more station of an item. Assumes nothing.
+-- The graph as a loop builds it: one more element of a station, one more station of an item.
 -- A loop over a station keeps `raised k w (take j s)` behind it, a loop over an item's nodes `distinct same-list (take j all)`;
 -- what is there stays, so an arc's end is final as soon as it is found.
 use Prim.Native.Nat.{ℕ, zero, suc, _+_, _≤_, _<_}

@@ -1,4 +1,4 @@
--- A pattern, weighed item by item: it suffices to see that each copy still fits when it is added. Assumes nothing.
+-- A pattern, weighed item by item: it suffices to see that each copy still fits when it is added.
 use Prim.Native.Nat.{ℕ, zero, suc}
 use mathlib.Core.Path.{_≡_, refl, sym, ap, subst, _∙_}
 use mathlib.Core.Bool.{Bool, true, false, cond, _&&_}

@@ -1,4 +1,4 @@
--- The graph of a problem, node by node. Assumes nothing.
+-- The graph of a problem, node by node.
 --
 -- Station (i, c) is item i, from 1, with c copies of it taken; its nodes have distinct amounts. The nodes are numbered
 -- station by station: (1, 0), (1, 1) .. up to item 1's most, then (2, 0) and so on, and last the target. Within a station
@@ -16,6 +16,7 @@ use Rattle.limits.specs.Meaning.{Meaning}
 use Rattle.packing.specs.Packing.{Item}
 use Rattle.graph.specs.Graph.{row}
 
+-- the place of an amount in a station
 abbrev pub place : List ℕ → List (List ℕ) → ℕ
 place a s = index same-list a s
 
@@ -63,10 +64,12 @@ module _ (k : Meaning) where
       item-rows (x .weight) (pass-end xs (o + length (layer (x .weight) (x .most) s)) (after x s)) i 0 (x .most) o s
       ++ rows-from (suc i) (o + length (layer (x .weight) (x .most) s)) (after x s) xs
 
+  -- the amounts of the nodes from the first station of the items left on
   abbrev pub loads-from : List (List ℕ) → List Item → List (List ℕ)
   loads-from s [] = []
   loads-from s (x ∷ xs) = layer (x .weight) (x .most) s ++ loads-from (after x s) xs
 
+  -- the graph of the items
   abbrev pub compiled : List Item → List Row
   compiled items = rows-from 1 0 (k .empty ∷ []) items
 

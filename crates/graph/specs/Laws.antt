@@ -1,4 +1,4 @@
--- What the graphs are for: the theorems about patterns and about compiled and reduced graphs. Assumes nothing.
+-- What the graphs are for: the theorems about patterns and about compiled and reduced graphs.
 use Prim.Native.Nat.{ℕ, suc, _<_, _≤_}
 use mathlib.Core.Path.{_≡_}
 use mathlib.Core.Bool.{true, false, cond}

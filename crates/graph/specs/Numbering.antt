@@ -1,4 +1,4 @@
--- The rule of numbering: which graph a problem has, said of its nodes and not of the way in which they are found. Assumes nothing.
+-- The rule of numbering: which graph a problem has, said of its nodes and not of the way in which they are found.
 --
 -- Every node but the target has an amount: what the copies taken on the way to it come to. A take arc leads to the amount of
 -- one copy more, a pass arc to the same amount at the next item. A station has each amount once. The nodes are numbered in the

@@ -1,4 +1,4 @@
--- The graph with its equivalent nodes joined. Assumes nothing.
+-- The graph with its equivalent nodes joined.
 --
 -- From the last node back, a node joins the class of a later node of its station if their arcs lead to the same classes,
 -- and otherwise begins a class of its own. A class goes by the number of its first member, the highest node. The classes
@@ -19,12 +19,14 @@ use Rattle.graph.specs.Graph.{row, at}
 abbrev pub led : (ℕ → ℕ) → Row → Row
 led f r = row (r .item) (r .copies) (mapped f (r .take)) (mapped f (r .pass))
 
+-- two arcs lead to one node, or both are absent
 abbrev pub same-end : Option ℕ → Option ℕ → Bool
 same-end None None = true
 same-end None (Some n) = false
 same-end (Some m) None = false
 same-end (Some m) (Some n) = eqb m n
 
+-- two rows are equal
 abbrev pub same-row : Row → Row → Bool
 same-row r q = eqb (r .item) (q .item) && eqb (r .copies) (q .copies) && same-end (r .take) (q .take) && same-end (r .pass) (q .pass)
 
@@ -51,8 +53,10 @@ classes n (r ∷ rs) = classed n r rs (classes (suc n) rs)
 abbrev pub renumbered : List ℕ → ℕ → ℕ
 renumbered cs t = index eqb (class 0 cs t) (distinct eqb cs)
 
+-- one row for each class, with its arcs led to the new numbers
 abbrev pub rejoined : List Row → List ℕ → List Row
 rejoined g cs = map (λ c. led (renumbered cs) (at g c)) (distinct eqb cs)
 
+-- the graph with its equivalent nodes joined
 abbrev pub reduced : List Row → List Row
 reduced g = rejoined g (classes 0 g)

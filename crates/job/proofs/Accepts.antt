@@ -1,4 +1,4 @@
--- The ways out of accept. Assumes nothing.
+-- The ways out of accept.
 use mathlib.Core.Path.{_≡_, refl, sym, ap, subst, _∙_}
 use mathlib.Core.Bool.{cond}
 use Prim.Native.Nat.{ℕ, suc, _<_, _≤_}

@@ -1,4 +1,4 @@
--- What a job answers to questions. Assumes nothing.
+-- What a job answers to questions.
 use mathlib.Core.Path.{_≡_, refl, sym, ap, _∙_}
 use mathlib.Core.Bool.{true, false, _&&_}
 use mathlib.Core.Logic.{_⊎_, inl, inr}

@@ -1,4 +1,4 @@
--- Writing the flow, arc by arc. Assumes nothing.
+-- Writing the flow, arc by arc.
 use mathlib.Core.Path.{_≡_, refl, sym, ap, subst, _∙_}
 use mathlib.Core.List.{List, _++_}
 use Prim.Native.Nat.{ℕ, suc, _-_, _*_, _<_, _≤_}

@@ -1,4 +1,4 @@
--- A job with a compiled graph. Assumes nothing.
+-- A job with a compiled graph.
 use mathlib.Core.Path.{_≡_, refl, sym, ap, subst, _∙_}
 use mathlib.Core.Logic.{⊎-elim}
 use mathlib.Core.List.{List, [], _∷_, _++_, map}

@@ -1,4 +1,4 @@
--- What the invariant of a job gives. Assumes nothing.
+-- What the invariant of a job gives.
 use mathlib.Core.Path.{_≡_, _∙_}
 use std.Logic.{∥∥₁-elim}
 use mathlib.Core.List.{List}

@@ -1,4 +1,4 @@
--- What a call that writes cells, records or the state leaves. Assumes nothing.
+-- What a call that writes cells, records or the state leaves.
 use mathlib.Core.Path.{_≡_, refl, sym, ap, subst, _∙_}
 use mathlib.Core.Logic.{⊎-elim}
 use mathlib.Core.List.{List, _++_}

@@ -1,4 +1,4 @@
--- What peel leaves. Assumes nothing.
+-- What peel leaves.
 use mathlib.Core.Path.{_≡_, sym, ap, subst, _∙_}
 use mathlib.Core.List.{List, _++_}
 use Prim.Native.Nat.{ℕ, suc, _+_, _-_, _*_, _<_, _≤_}

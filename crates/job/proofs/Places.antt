@@ -1,4 +1,4 @@
--- What place leaves. Assumes nothing.
+-- What place leaves.
 use mathlib.Core.Path.{_≡_, refl, sym, ap, subst, _∙_}
 use mathlib.Core.Bool.{false}
 use mathlib.Core.List.{List}

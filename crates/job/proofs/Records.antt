@@ -1,4 +1,4 @@
--- Writing the copies left, record by record. Assumes nothing.
+-- Writing the copies left, record by record.
 use mathlib.Core.Path.{_≡_, refl, sym, ap, subst, _∙_}
 use mathlib.Core.Logic.{_⊎_, inl, inr, _≢_}
 use Prim.Native.Nat.{ℕ, _+_, _<_}

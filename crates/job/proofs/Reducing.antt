@@ -1,4 +1,4 @@
--- A job whose nodes were joined. Assumes nothing.
+-- A job whose nodes were joined.
 use mathlib.Core.Path.{_≡_, refl, sym, ap, ap₂, subst, _∙_}
 use mathlib.Core.Bool.{true, false}
 use mathlib.Core.List.{List, _++_}

@@ -1,4 +1,4 @@
--- The model text as an answer of a job. Assumes nothing.
+-- The model text as an answer of a job.
 use mathlib.Core.Path.{_≡_, refl, sym, ap, subst, _∙_}
 use mathlib.Core.List.{List}
 use Prim.Native.Nat.{ℕ, _≤_}

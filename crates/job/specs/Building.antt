@@ -1,4 +1,4 @@
--- What compile, reduce and the model text owe: their answer, and what the memory given holds afterwards. Assumes nothing.
+-- What compile, reduce and the model text owe: their answer, and what the memory given holds afterwards.
 use mathlib.Core.Path.{_≡_}
 use mathlib.Core.Bool.{false}
 use mathlib.Core.List.{List, _++_, map}
@@ -21,6 +21,7 @@ use Rattle.job.specs.declared.state.Core.{Core}
 use Rattle.job.specs.View.{graph-of, size, view, answered}
 use Rattle.job.specs.Sound.{Sound}
 
+-- the reply that tells a number of nodes
 abbrev pub nodes : ℕ → Reply
 nodes n = Nodes n
 

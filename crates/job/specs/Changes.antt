@@ -1,4 +1,4 @@
--- A job with one part changed. Assumes nothing.
+-- A job with one part changed.
 use mathlib.Core.Path.{_≡_}
 use mathlib.Core.List.{List, _++_}
 use Prim.Native.Nat.{ℕ, _≤_, _<_}

@@ -1,4 +1,4 @@
--- What every call that can change a job owes. Assumes nothing.
+-- What every call that can change a job owes.
 use mathlib.Core.Path.{_≡_}
 use mathlib.Core.Bool.{false}
 use lib.ListN.{drop}

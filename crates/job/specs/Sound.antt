@@ -1,4 +1,4 @@
--- What always holds of a job. Assumes nothing.
+-- What always holds of a job.
 use mathlib.Core.Path.{_≡_}
 use mathlib.Core.List.{List}
 use Prim.Native.Nat.{ℕ, suc, _*_, _≤_, _<_}
@@ -30,12 +30,15 @@ pub record Tells (m : ℕ) (g : List Row) (f : List ℕ) (items : List ItemRecor
   pub balanced : Balanced g f
   pub left : (i : ℕ) → i < m → getD items i no-item .left ≡ copies-of g f (suc i)
 
+-- what holds of a job that is open or accepted
 abbrev pub Loaded : Core → Type 0
 Loaded c = Stands (c .count) (graph-of c) (now (c .cells))
 
+-- what besides holds of an accepted job
 abbrev pub Settled : Core → Type 0
 Settled c = Tells (c .count) (graph-of c) (flow-of c) (c .items)
 
+-- what all calls keep
 pub record Kept (c : Core) : Type 0 where
   pub table : length (c .items) ≡ 64
   pub loaded : (c .state ≡ Empty → ⊥) → Loaded c

@@ -1,4 +1,4 @@
--- A job in memory, as its user sees it, and what its calls answer. Assumes nothing.
+-- A job in memory, as its user sees it, and what its calls answer.
 use mathlib.Core.Path.{_≡_}
 use mathlib.Core.List.{List}
 use Prim.Native.Nat.{ℕ, _+_, _*_, _/_, min}
@@ -21,6 +21,7 @@ use Rattle.job.specs.declared.state.State.the-variants
 abbrev pub size : Core → ℕ
 size c = min (min (length (entries (c .rows)) + length (spare (c .rows))) (length (now (c .cells)) / 2)) 65535
 
+-- the graph: the entries of the rows
 abbrev pub graph-of : Core → List Row
 graph-of c = entries (c .rows)
 
@@ -32,17 +33,21 @@ arcs-of c = 2 * length (graph-of c)
 abbrev pub flow-of : Core → List ℕ
 flow-of c = take (arcs-of c) (now (c .cells))
 
+-- the demands of the items
 abbrev pub demanded : Core → List ℕ
 demanded c = demands-of (take (c .count) (c .items))
 
+-- graph, flow and demands
 abbrev pub content : Core → Content
 content c = record { graph = graph-of c; flow = flow-of c; demands = demanded c }
 
+-- a job of this state and content, as its user sees it
 abbrev pub shown : State → Content → View
 shown the-variants.Empty j = Empty
 shown the-variants.Open j = Open j
 shown the-variants.Accepted j = Accepted j
 
+-- a job as its user sees it
 abbrev pub view : Core → View
 view c = shown (c .state) (content c)
 
@@ -51,9 +56,11 @@ abbrev pub answered : {A : Type 0} → (A → Reply) → Result A Refusal → An
 answered reply (Ok x) = Done (reply x)
 answered reply (Err e) = Refused e
 
+-- the reply that tells nothing
 abbrev pub plain : Unit {0} → Reply
 plain u = Plain
 
+-- the reply of accept
 abbrev pub worth : Acceptance → Reply
 worth a = Worth (a .value) (a .arcs)
 
@@ -61,12 +68,15 @@ worth a = Worth (a .value) (a .arcs)
 abbrev pub packed : List ℕ → ℕ → Reply
 packed counts times = Packed (record { counts = counts; times = times })
 
+-- the reply that tells a row
 abbrev pub node : Row → Reply
 node r = Told (Node r)
 
+-- the reply that tells a number
 abbrev pub quantity : ℕ → Reply
 quantity x = Told (Amount x)
 
+-- the state as a job tells it
 abbrev pub phase-of : State → Phase
 phase-of the-variants.Empty = IsEmpty
 phase-of the-variants.Open = IsOpen

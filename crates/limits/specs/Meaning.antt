@@ -1,5 +1,5 @@
 -- What a kind of limit means, as plain mathematics: which lists of numbers are amounts, how they add up, which of them fit,
--- and what a list of fields weighs. Assumes nothing.
+-- and what a list of fields weighs.
 use mathlib.Core.Path.{_≡_}
 use mathlib.Core.List.{List, [], _∷_}
 use mathlib.Core.Bool.{Bool, true}
@@ -10,6 +10,7 @@ use Rattle.std.specs.Options.{Cases, whenTrue}
 use Rattle.std.specs.declared.option.Option.{Option}
 use Rattle.std.specs.declared.option.Option.the-variants.{None}
 
+-- What a kind of limit means.
 pub record Meaning : Type 0 where
   -- the number of fields
   pub arity : ℕ

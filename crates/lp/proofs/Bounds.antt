@@ -1,4 +1,4 @@
--- The numbers of a graph's model are small. Assumes nothing.
+-- The numbers of a graph's model are small.
 use mathlib.Core.Bool.{Bool, true, false}
 use mathlib.Core.List.{List, [], _∷_}
 use Prim.Native.Nat.{ℕ, zero, suc, _+_, _-_, _*_, _^_, _<_, _≤_}

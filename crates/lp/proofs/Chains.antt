@@ -1,4 +1,4 @@
--- Linked lists of arcs, followed and built. Assumes nothing.
+-- Linked lists of arcs, followed and built.
 use mathlib.Core.Path.{_≡_, refl, sym, ap, subst, _∙_}
 use mathlib.Core.Logic.{_⊎_, inl, inr}
 use mathlib.Core.Bool.{Bool, true, false, cond}

@@ -1,4 +1,4 @@
--- The nodes of an item stand together. Assumes nothing.
+-- The nodes of an item stand together.
 use mathlib.Core.Path.{_≡_, refl, sym, ap, ap₂, subst, _∙_}
 use mathlib.Core.Logic.{_⊎_, inl, inr}
 use mathlib.Core.Bool.{Bool, true, false, _&&_}

@@ -1,4 +1,4 @@
--- Entries one after another, and the rows that they make up. Assumes nothing.
+-- Entries one after another, and the rows that they make up.
 use mathlib.Core.Path.{_≡_, refl, sym, ap, subst, _∙_}
 use mathlib.Core.Bool.{Bool, true, false}
 use mathlib.Core.List.{List, [], _∷_, _++_, map, append-assoc}

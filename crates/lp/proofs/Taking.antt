@@ -1,4 +1,4 @@
--- Bytes that a sink takes one after another. Assumes nothing.
+-- Bytes that a sink takes one after another.
 use mathlib.Core.Path.{_≡_, refl, sym, ap, ap₂, subst, _∙_}
 use mathlib.Core.Bool.{Bool, true, false, cond, not, _||_}
 use mathlib.Core.List.{List, [], _∷_, _++_, append-assoc}

@@ -1,5 +1,5 @@
 -- The arcs into each node as linked lists: the first arc into a node, and after each arc the next into the same node.
--- A number past the last place ends a list. Assumes nothing.
+-- A number past the last place ends a list.
 use mathlib.Core.Path.{_≡_}
 use mathlib.Core.List.{List, [], _∷_}
 use Prim.Native.Nat.{ℕ, _<_, _≤_}
@@ -45,6 +45,7 @@ abbrev pub first-with : Option ℕ → ℕ → List ℕ → List ℕ
 first-with None a first = first
 first-with (Some v) a first = set first v a
 
+-- and the next arc after each
 abbrev pub next-with : Option ℕ → ℕ → List ℕ → List ℕ → List ℕ
 next-with None a first next = next
 next-with (Some v) a first next = set next a (getD first v 0)

@@ -1,4 +1,4 @@
--- A model read back from its text, word by word from the last to the first. Assumes nothing.
+-- A model read back from its text, word by word from the last to the first.
 use mathlib.Core.Path.{_≡_}
 use mathlib.Core.List.{List, [], _∷_, map}
 use mathlib.Core.Bool.{Bool, cond, _&&_, _||_}
@@ -15,6 +15,7 @@ use Rattle.flow.specs.Text.{text}
 abbrev pub separates : ℕ → Bool
 separates c = eqb c 32 || (eqb c 10 || eqb c 58)
 
+-- one byte more at the start of the first piece
 abbrev pub onto : ℕ → List (List ℕ) → List (List ℕ)
 onto c [] = (c ∷ []) ∷ []
 onto c (w ∷ ws) = (c ∷ w) ∷ ws
@@ -32,23 +33,29 @@ pub record Reading : Type 0 where
   pub relation : Relation
   pub right : ℕ
 
+-- nothing was read
 abbrev pub unread : Reading
 unread = record { rows = []; variables = []; terms = []; relation = Equal; right = 0 }
 
+-- the row at hand with these terms
 abbrev pub with-terms : List Term → Reading → Reading
 with-terms ts s = record { rows = s .rows; variables = s .variables; terms = ts; relation = s .relation; right = s .right }
 
+-- the row at hand with one term more in front
 abbrev pub with-term : Term → Reading → Reading
 with-term t s = with-terms (t ∷ s .terms) s
 
+-- the first term with the other sign
 abbrev pub negated : List Term → List Term
 negated [] = []
 negated (Plus x ∷ ts) = Minus x ∷ ts
 negated (Minus x ∷ ts) = Plus x ∷ ts
 
+-- the row at hand with this relation
 abbrev pub related : Relation → Reading → Reading
 related r s = record { rows = s .rows; variables = s .variables; terms = s .terms; relation = r; right = s .right }
 
+-- the row at hand with this right side
 abbrev pub numbered : ℕ → Reading → Reading
 numbered n s = record { rows = s .rows; variables = s .variables; terms = s .terms; relation = s .relation; right = n }
 
@@ -58,6 +65,7 @@ labelled l s =
     let c : Constraint = record { label = l; terms = s .terms; relation = s .relation; right = s .right } in
     record { rows = c ∷ s .rows; variables = s .variables; terms = []; relation = s .relation; right = s .right }
 
+-- the variable of a term
 abbrev pub variable-of : Term → Variable
 variable-of (Plus x) = x
 variable-of (Minus x) = x
@@ -78,17 +86,21 @@ letter c ds s =
     (cond (eqb c 100) (labelled (Item (value 10 ds)) s)
     (cond (eqb c 71) (listing s) s)))))))
 
+-- a decimal digit
 abbrev pub digit : ℕ → Bool
 digit c = leb 48 c && leb c 57
 
+-- one word more, which stands before what was read
 abbrev pub word : List ℕ → Reading → Reading
 word [] s = s
 word (c ∷ ds) s = cond (digit c) (numbered (value 10 (c ∷ ds)) s) (letter c ds s)
 
+-- what the words say, from the last back
 abbrev pub read-words : List (List ℕ) → Reading
 read-words [] = unread
 read-words (w ∷ ws) = word w (read-words ws)
 
+-- the model that a text tells
 abbrev pub reads : List ℕ → Model
 reads bytes = record { rows = read-words (pieces bytes) .rows; variables = read-words (pieces bytes) .variables }
 
@@ -97,15 +109,18 @@ abbrev pub Within-variable : Variable → Type 0
 Within-variable Z = Unit {0}
 Within-variable (X a) = a < 2 ^ 64
 
+-- a label of a number of at most 64 bits
 abbrev pub Within-label : Label → Type 0
 Within-label (Node n) = n < 2 ^ 64
 Within-label (Item i) = i < 2 ^ 64
 
+-- a row of such numbers
 pub record Within-row (c : Constraint) : Type 0 where
   pub label : Within-label (c .label)
   pub terms : All (λ t. Within-variable (variable-of t)) (c .terms)
   pub right : c .right < 2 ^ 64
 
+-- a model of such numbers
 pub record Within (m : Model) : Type 0 where
   pub rows : All Within-row (m .rows)
   pub variables : All Within-variable (m .variables)

@@ -1,4 +1,4 @@
--- Models with their texts written out. Assumes nothing.
+-- Models with their texts written out.
 use mathlib.Core.Path.{_≡_}
 use mathlib.Core.Bool.{true}
 use mathlib.Core.List.{[], _∷_, map}
@@ -13,6 +13,7 @@ use Rattle.flow.specs.Text.{constraint, entries, listed, text}
 abbrev row-of : ℕ → Constraint
 row-of n = record { label = Node 1; terms = plus (numbers (λ a. true) n); relation = Equal; right = 0 }
 
+-- a whole model, and rows and lists at the breaks of lines
 pub record Samples : Type 0 where
   -- a board of 3 and two rails of 2, in a length of 5
   pub boards-text : text (model graph-of-five (1 ∷ 2 ∷ []))

@@ -1,4 +1,4 @@
--- What a sink has taken, told from its states before and after. Assumes nothing.
+-- What a sink has taken, told from its states before and after.
 use mathlib.Core.Path.{_≡_}
 use mathlib.Core.Bool.{_||_, cond}
 use mathlib.Core.List.{List, [], _∷_, _++_}

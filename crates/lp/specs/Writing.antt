@@ -1,4 +1,4 @@
--- What the functions that write an arc at a time have to write, and where they find it. Assumes nothing.
+-- What the functions that write an arc at a time have to write, and where they find it.
 use mathlib.Core.List.{List, [], _∷_, _++_}
 use mathlib.Core.Bool.{Bool, cond}
 use Prim.Native.Nat.{ℕ, _<_, _≤_}
@@ -22,6 +22,7 @@ leads r a = cond (takes a) (r .take) (r .pass)
 abbrev pub outgoing : Row → ℕ → List ℕ
 outgoing r v = cond (isSome (r .pass)) (pass-arc v ∷ []) [] ++ cond (isSome (r .take)) (take-arc v ∷ []) []
 
+-- what leads to a variable that follows k others
 abbrev pub lead : Lead → ℕ → List ℕ
 lead Listed k = codes " "
 lead Added k = cond (eqb k 0) (codes " ") (codes " + ")

@@ -1,4 +1,4 @@
--- Limits in their ranges make a kind, which means what the limits mean. Assumes nothing.
+-- Limits in their ranges make a kind, which means what the limits mean.
 use mathlib.Core.Path.{_≡_, refl, sym, ap, _∙_}
 use mathlib.Core.Bool.{Bool, true, false, _&&_}
 use mathlib.Core.List.{List, [], _∷_}

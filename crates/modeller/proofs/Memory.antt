@@ -1,4 +1,4 @@
--- The memory in which a model is made, and the items of an instance as orders. Assumes nothing.
+-- The memory in which a model is made, and the items of an instance as orders.
 use mathlib.Core.Path.{_≡_, refl, ap}
 use mathlib.Core.List.{List, [], _∷_}
 use Prim.Native.Nat.{ℕ, _/_, min}

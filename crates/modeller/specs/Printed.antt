@@ -1,4 +1,4 @@
--- What is printed for a text: the model of the instance that it spells, or the line of a refusal. Assumes nothing.
+-- What is printed for a text: the model of the instance that it spells, or the line of a refusal.
 use mathlib.Core.List.{List, [], _∷_, _++_, map}
 use Prim.Native.Nat.{ℕ}
 use lib.ListN.{take}
@@ -31,9 +31,11 @@ abbrev pub under-count : Option ℕ → Meaning → Meaning
 under-count None k = k
 under-count (Some n) k = counted-meaning n k
 
+-- what all limits of an instance mean
 abbrev pub limits-meaning : Limits → Meaning
 limits-meaning l = under-count (l .count) (base-meaning (l .base))
 
+-- the items of an instance text, by fields and demand
 abbrev pub orders-in : List Entry → List Order
 orders-in es = map (λ e. record { fields = e .fields; demand = e .demand }) es
 
@@ -62,6 +64,7 @@ shown (Done x ∷ rest) = text-in x ++ shown rest
 unfoldable pub modelled : Meaning → List Order → List ℕ
 modelled k orders = shown (answers 512 Empty (calls k orders 512 65536))
 
+-- what is printed for what was read
 abbrev pub printed : Read Spelled → List ℕ
 printed (Err e) = refused-line e
 printed (Ok s) = modelled (limits-meaning (s .limits)) (orders-in (s .items))

@@ -1,4 +1,4 @@
--- Laws of lists without repetition. Assumes nothing.
+-- Laws of lists without repetition.
 use Prim.Native.Nat.{ℕ, zero, suc, _+_, _≤_, _<_}
 use native.Mathlib.Nat.{not-suc-le-zero, le-of-suc-le-suc}
 use native.Mathlib.Omega.{arith}

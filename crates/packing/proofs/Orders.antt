@@ -1,4 +1,4 @@
--- Items with which nothing is wrong can be compiled. Assumes nothing.
+-- Items with which nothing is wrong can be compiled.
 use Prim.Native.Nat.{ℕ, suc, _+_, _<_, _≤_}
 use native.Mathlib.Omega.{arith}
 use mathlib.Core.Path.{_≡_, refl, ap, _∙_}

@@ -1,4 +1,4 @@
--- The list of all patterns has each pattern once, and nothing else. Assumes nothing.
+-- The list of all patterns has each pattern once, and nothing else.
 use Prim.Native.Nat.{ℕ, zero, suc, _+_, _<_}
 use native.Mathlib.Omega.{arith}
 use mathlib.Core.Path.{_≡_, refl, sym, ap, _∙_}

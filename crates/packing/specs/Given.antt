@@ -9,8 +9,10 @@ use Rattle.packing.specs.Problem.{Order}
 abbrev pub fields-of : Item → List ℕ
 fields-of i = take (i .«field_count») (i .values)
 
+-- what an item asks for
 abbrev pub order-of : Item → Order
 order-of i = record { fields = fields-of i; demand = i .demand }
 
+-- what all items ask for
 abbrev pub orders-of : List Item → List Order
 orders-of items = map order-of items

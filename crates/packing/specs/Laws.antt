@@ -1,4 +1,4 @@
--- What is promised of the list of patterns, and of the checks on items. Assumes nothing.
+-- What is promised of the list of patterns, and of the checks on items.
 use Prim.Native.Nat.{ℕ, suc, _<_, _≤_}
 use mathlib.Core.Path.{_≡_}
 use mathlib.Core.Bool.{true, false, cond}
@@ -23,6 +23,7 @@ pub record Finds-flaw (k : Meaning) (orders : List Order) : Type 0 where
       All (λ y. fair k y ≡ true) before → fair k x ≡ false → flaw k orders ≡ Some (suc (length before))
   pub nothing : 1 ≤ length orders → length orders ≤ 64 → All (λ y. fair k y ≡ true) orders → flaw k orders ≡ None
 
+-- of every kind and all orders
 abbrev pub Finds-flaws : Type 0
 Finds-flaws = (k : Meaning) (orders : List Order) → Finds-flaw k orders
 

@@ -1,4 +1,4 @@
--- A packing problem as it is given, what is wrong with it, and its packings. Assumes nothing.
+-- A packing problem as it is given, what is wrong with it, and its packings.
 use Prim.Native.Nat.{ℕ, zero, suc, _+_, _*_, _≤_}
 use mathlib.Core.Path.{_≡_}
 use mathlib.Core.Bool.{Bool, true, false, cond, _&&_, _||_}
@@ -21,6 +21,7 @@ pub record Problem : Type 0 where
   pub kind : Meaning
   pub orders : List Order
 
+-- how many of each item are asked for
 abbrev pub demands : List Order → List ℕ
 demands orders = map (λ x. x .demand) orders
 
@@ -47,15 +48,19 @@ abbrev pub weight-of : Meaning → Option (List ℕ) → List ℕ
 weight-of k None = k .empty
 weight-of k (Some w) = w
 
+-- an item by its weight and its most copies in a bin
 abbrev pub item-of : Meaning → Order → Item
 item-of k x = record { weight = weight-of k (k .weight (x .fields)); most = x .demand }
 
+-- all items, by weight and most copies
 abbrev pub items : Meaning → List Order → List Item
 items k orders = map (item-of k) orders
 
+-- whether counts are a pattern of the problem
 abbrev pub is-pattern : Problem → List ℕ → Bool
 is-pattern p counts = pattern (p .kind) (items (p .kind) (p .orders)) counts
 
+-- counts that are a pattern of the problem
 abbrev pub Pattern : Problem → List ℕ → Type 0
 Pattern p counts = is-pattern p counts ≡ true
 
@@ -69,6 +74,7 @@ pub record Bin : Type 0 where
   pub counts : List ℕ
   pub times : ℕ
 
+-- how many bins these are
 abbrev pub times-of : List Bin → ℕ
 times-of [] = 0
 times-of (b ∷ bins) = b .times + times-of bins

@@ -1,4 +1,4 @@
--- Ranks by first appearance, from value to value. Assumes nothing.
+-- Ranks by first appearance, from value to value.
 use Prim.Native.Nat.{ℕ, suc, _+_, _-_, _≤_, _<_, max}
 use native.Mathlib.Omega.{arith}
 use mathlib.Core.Path.{_≡_, refl, sym, ap, subst, _∙_}

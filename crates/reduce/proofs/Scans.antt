@@ -1,4 +1,4 @@
--- The search for a node's class: from row to row, and where it may stop. Assumes nothing.
+-- The search for a node's class: from row to row, and where it may stop.
 use Prim.Native.Nat.{ℕ, suc, _+_, _-_, _≤_, _<_}
 use native.Mathlib.Omega.{arith}
 use mathlib.Core.Path.{_≡_, refl, sym, ap, _∙_}

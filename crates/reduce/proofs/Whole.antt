@@ -1,4 +1,4 @@
--- The steps of a reduction put together. Assumes nothing.
+-- The steps of a reduction put together.
 use Prim.Native.Nat.{ℕ, _+_, _*_, _-_, _≤_, _<_}
 use native.Mathlib.Omega.{arith}
 use mathlib.Core.Path.{_≡_, sym, ap, _∙_}

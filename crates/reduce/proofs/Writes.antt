@@ -1,4 +1,4 @@
--- Rows written at their new numbers. Assumes nothing.
+-- Rows written at their new numbers.
 use Prim.Native.Nat.{ℕ, zero, suc, _+_, _-_, _≤_, _<_}
 use native.Mathlib.Omega.{arith}
 use mathlib.Core.Path.{_≡_, refl, sym, ap, subst, _∙_}

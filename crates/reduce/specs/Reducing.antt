@@ -1,4 +1,4 @@
--- What the steps of a reduction in place leave. Assumes nothing.
+-- What the steps of a reduction in place leave.
 use Prim.Native.Nat.{ℕ, zero, suc, _+_}
 use mathlib.Core.Path.{_≡_}
 use mathlib.Core.Bool.{Bool, _&&_}

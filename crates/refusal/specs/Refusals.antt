@@ -1,4 +1,4 @@
--- The numbers of a refusal, and the line that tells of it. Assumes nothing.
+-- The numbers of a refusal, and the line that tells of it.
 use mathlib.Core.List.{List, [], _∷_, _++_}
 use Prim.Native.Nat.{ℕ}
 use lib.Chars.{codes}
@@ -40,5 +40,6 @@ numbers-of TooLittleMemory = told 17 4 0 0
 abbrev pub line-of : Numbers → List ℕ
 line-of n = codes "refused " ++ (decimal (n .number) ++ (codes " " ++ (decimal (n .layer) ++ (codes " " ++ (decimal (n .a) ++ (codes " " ++ (decimal (n .b) ++ (10 ∷ []))))))))
 
+-- the line that tells of a refusal
 abbrev pub refused-line : Refusal → List ℕ
 refused-line r = line-of (numbers-of r)

@@ -1,4 +1,4 @@
--- The calls by which a packing is made, and what comes of calls that end at the first refusal. Assumes nothing.
+-- The calls by which a packing is made, and what comes of calls that end at the first refusal.
 use mathlib.Core.List.{List, [], _∷_}
 use Prim.Native.Nat.{ℕ}
 use Rattle.limits.specs.Meaning.{Meaning}

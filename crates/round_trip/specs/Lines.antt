@@ -1,4 +1,4 @@
--- The line of a bin. Assumes nothing.
+-- The line of a bin.
 use mathlib.Core.Bool.{cond}
 use mathlib.Core.List.{List, [], _∷_, _++_}
 use Prim.Native.Nat.{ℕ}

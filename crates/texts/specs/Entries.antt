@@ -17,9 +17,11 @@ use Rattle.texts.specs.Grammar.{Read, Entry, Spelled, and-then, reads}
 abbrev pub entry-of : Item → Entry
 entry-of i = record { name = now (i .name); line = i .line; fields = fields-of i; demand = i .demand }
 
+-- the items of a table
 abbrev pub entries-in : List Item → List Entry
 entries-in is = map entry-of is
 
+-- the names of the items of a table
 abbrev pub names-in : List Item → List (List ℕ)
 names-in is = map (λ i. now (i .name)) is
 

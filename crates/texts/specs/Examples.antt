@@ -15,6 +15,7 @@ abbrev pub text-from : List String → List ℕ
 text-from [] = []
 text-from (l ∷ ls) = codes l ++ (10 ∷ text-from ls)
 
+-- what is read of some texts
 pub record Examples : Type 0 where
   pub boards : reads (text-from ("1" ∷ "L 5" ∷ "2" ∷ "board 3 1" ∷ "rail 2 2" ∷ [])) ≡ Ok (record { limits = record { base = Length 5; count = None }; items = record { name = codes "board"; line = 4; fields = 3 ∷ []; demand = 1 } ∷ record { name = codes "rail"; line = 5; fields = 2 ∷ []; demand = 2 } ∷ [] })
   pub colours : reads (text-from ("2" ∷ "C 1" ∷ "N 100000" ∷ "1" ∷ "red 0 2" ∷ [])) ≡ Ok (record { limits = record { base = Colours 1; count = Some 100000 }; items = record { name = codes "red"; line = 5; fields = 0 ∷ []; demand = 2 } ∷ [] })

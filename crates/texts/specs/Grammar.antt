@@ -77,6 +77,7 @@ four-numbers line k ws = and-then (shape line 4 ws) (λ _. numbers-at line k 4 w
 abbrev pub prints-of : ℕ → Bool
 prints-of b = leb 32 b && leb b 126
 
+-- all bytes are printable ASCII
 abbrev pub printable : List ℕ → Bool
 printable [] = true
 printable (b ∷ bs) = prints-of b && printable bs
@@ -101,6 +102,7 @@ letter-in word = None
 letter-in (number n) = None
 letter-in (letter c) = Some c
 
+-- the letter that stands first in a line, if one does
 abbrev pub first-letter : List (List ℕ) → Option ℕ
 first-letter [] = None
 first-letter (w ∷ ws) = letter-in (form w)
@@ -114,9 +116,11 @@ base-by line (Some c) ws =
     (cond (eqb c 67) (and-then (sole-number 0 64 line 2 ws) (λ k. Ok (Colours k)))
     (Err (UnknownLetter line 1))))
 
+-- a limit line that stands first: L, V or C and its limits
 abbrev pub base-of : (line : ℕ) → List (List ℕ) → Read Base
 base-of line ws = base-by line (first-letter ws) (drop 1 ws)
 
+-- the first limit line
 abbrev pub base-at : (line : ℕ) → List (List ℕ) → Read Base
 base-at line ls = and-then (line-at line ls) (λ x. base-of line (words x))
 
@@ -125,9 +129,11 @@ abbrev pub count-limit-by : (line : ℕ) → Option ℕ → List (List ℕ) → 
 count-limit-by line None ws = Err (UnknownLetter line 1)
 count-limit-by line (Some c) ws = cond (eqb c 78) (sole-number 1 100000 line 2 ws) (Err (UnknownLetter line 1))
 
+-- a limit line that stands second: N and its limit
 abbrev pub count-limit-of : (line : ℕ) → List (List ℕ) → Read ℕ
 count-limit-of line ws = count-limit-by line (first-letter ws) (drop 1 ws)
 
+-- the second limit line
 abbrev pub count-limit-at : (line : ℕ) → List (List ℕ) → Read ℕ
 count-limit-at line ls = and-then (line-at line ls) (λ x. count-limit-of line (words x))
 
@@ -173,9 +179,11 @@ item-of count line names ws =
     and-then (number-at 1 4095 line (count + 2) (drop count (drop 1 ws))) (λ d.
     Ok (record { name = name; line = line; fields = xs; demand = d })))))
 
+-- the next line as an item
 abbrev pub item-at : (count line : ℕ) → List (List ℕ) → List (List ℕ) → Read Entry
 item-at count line names ls = and-then (line-at line ls) (λ x. item-of count line names (words x))
 
+-- the names of items
 abbrev pub names-of : List Entry → List (List ℕ)
 names-of es = map (λ e. e .name) es
 
@@ -205,21 +213,27 @@ section n part follows l ls = and-then (part (l + 1) ls) (λ a. follows a (l + n
 
 -- From the end of the text back to its first line: what is read there, after all that was read before it.
 
+-- nothing follows the items
 abbrev pub text-end : Base → Option ℕ → List Entry → ℕ → List (List ℕ) → Read Spelled
 text-end base count es = section 0 end-at (λ _ l ls. Ok (record { limits = record { base = base; count = count }; items = es }))
 
+-- m item lines, and the end
 abbrev pub item-lines : Base → Option ℕ → ℕ → ℕ → List (List ℕ) → Read Spelled
 item-lines base count m = section m (λ l ls. items-at (field-count-of base) l m ls []) (text-end base count)
 
+-- the count of items, and the items
 abbrev pub items-section : Base → Option ℕ → ℕ → List (List ℕ) → Read Spelled
 items-section base count = section 1 (count-at 1 64) (item-lines base count)
 
+-- the second limit line, and the items
 abbrev pub second-line : ℕ → Base → ℕ → List (List ℕ) → Read Spelled
 second-line k base = section (k - 1) (second-at k) (items-section base)
 
+-- k limit lines, and the items
 abbrev pub limit-lines : ℕ → ℕ → List (List ℕ) → Read Spelled
 limit-lines k = section 1 base-at (second-line k)
 
+-- both sections
 abbrev pub sections : ℕ → List (List ℕ) → Read Spelled
 sections = section 1 (count-at 1 2) limit-lines
 

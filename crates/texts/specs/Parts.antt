@@ -19,6 +19,7 @@ part-of (Word p) = p
 part-of (Number p n) = p
 part-of (Letter p c) = p
 
+-- the form of a field
 abbrev pub form-of : Field → Form
 form-of (Word p) = word
 form-of (Number p n) = number n

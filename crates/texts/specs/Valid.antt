@@ -13,6 +13,7 @@ use Rattle.texts.specs.declared.instance.Base.{Base}
 use Rattle.texts.specs.declared.instance.Base.the-variants.{Length, Vector, Colours}
 use Rattle.texts.specs.Grammar.{Entry, Spelled, field-count-of, names-of, reads}
 
+-- a number in a range
 abbrev pub Within : ℕ → ℕ → ℕ → Type 0
 Within low high n = (low ≤ n) × (n ≤ high)
 
@@ -35,6 +36,7 @@ Limit (Length n) = Within 1 1000000000 n
 Limit (Vector ns) = (length ns ≡ 4) × All (Within 0 1000000000) ns
 Limit (Colours n) = Within 0 64 n
 
+-- the most items in a bin, where that is limited, is in its range
 abbrev pub CountLimit : Option ℕ → Type 0
 CountLimit None = Unit {0}
 CountLimit (Some n) = Within 1 100000 n
@@ -54,6 +56,7 @@ abbrev pub first-item : Option ℕ → ℕ
 first-item None = 4
 first-item (Some n) = 5
 
+-- An instance as the problem means it.
 pub record Valid (s : Spelled) : Type 0 where
   pub limit : Limit (s .limits .base)
   pub count-limit : CountLimit (s .limits .count)

@@ -9,6 +9,7 @@ use Rattle.std.specs.Text.{asciiDigit, asciiLetter}
 
 -- Decimal numbers
 
+-- all bytes are decimal digits
 abbrev pub all-digits : List ℕ → Bool
 all-digits [] = true
 all-digits (b ∷ bs) = asciiDigit b && all-digits bs
@@ -38,6 +39,7 @@ pub data Form : Type 0 where
   number : ℕ → Form
   letter : ℕ → Form
 
+-- a number where there is one, else a word
 abbrev pub numeric : Option ℕ → Form
 numeric (Some n) = number n
 numeric None = word

@@ -25,15 +25,18 @@ abbrev pub text-of : List (List (List ℕ)) → List ℕ
 text-of [] = []
 text-of (ws ∷ ls) = spaced ws ++ 10 ∷ text-of ls
 
+-- the words of the first limit line
 abbrev pub base-words : Base → List (List ℕ)
 base-words (Length n) = codes "L" ∷ decimal n ∷ []
 base-words (Vector ns) = codes "V" ∷ map decimal ns
 base-words (Colours n) = codes "C" ∷ decimal n ∷ []
 
+-- the words of the limit lines
 abbrev pub limit-lines-of : Base → Option ℕ → List (List (List ℕ))
 limit-lines-of base None = base-words base ∷ []
 limit-lines-of base (Some n) = base-words base ∷ (codes "N" ∷ decimal n ∷ []) ∷ []
 
+-- the words of an item line
 abbrev pub item-words : Entry → List (List ℕ)
 item-words e = e .name ∷ map decimal (e .fields) ++ decimal (e .demand) ∷ []
 
@@ -41,9 +44,11 @@ item-words e = e .name ∷ map decimal (e .fields) ++ decimal (e .demand) ∷ []
 abbrev pub counted : List (List (List ℕ)) → List (List (List ℕ))
 counted ls = (decimal (length ls) ∷ []) ∷ ls
 
+-- the words of all lines
 abbrev pub lines-of : Spelled → List (List (List ℕ))
 lines-of s = counted (limit-lines-of (s .limits .base) (s .limits .count)) ++ counted (map item-words (s .items))
 
+-- the text of an instance
 unfoldable pub written : Spelled → List ℕ
 written s = text-of (lines-of s)
 
