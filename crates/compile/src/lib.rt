@@ -1,4 +1,6 @@
 // Compilation: the layered graph of a packing problem, built node by node in lent memory, for every kind of limit.
+#![tactic(auto)]
+
 mod arcs;
 mod build;
 mod checks;

@@ -1,5 +1,7 @@
 // Flows on the graph of a packing problem: what a job's calls mean, the law over its runs, and the scans and walks of which
 // its calls are made.
+#![tactic(auto)]
+
 ghost use Rattle.flow.specs.Cases.{CasesRuled, MarkedCases, RefusedInOrder};
 ghost use Rattle.flow.specs.Exact.{ModelsExactly};
 ghost use Rattle.flow.specs.Law.{PacksSoundly};

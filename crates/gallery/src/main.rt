@@ -1,4 +1,6 @@
 // Prints the model of each example instance, or the line of its refusal.
+#![tactic(auto)]
+
 use modeller::model_of;
 use std::io::Write;
 use std::{fs, io};

@@ -1,4 +1,6 @@
 // The layered graph of a packing problem: its rows, and the theorems about its definitions in specs/.
+#![tactic(auto)]
+
 ghost use Rattle.graph.specs.Laws.{CompilesLayered, JoinsFix, PathsDetermined, Reduces, SpellsPatterns};
 ghost use Rattle.graph.specs.Numbering.{CompiledStepped, NumberingFixed};
 

@@ -1,4 +1,6 @@
 // Kinds of limit for packing: what a bin may hold, and how loads are put together.
+#![tactic(auto)]
+
 pub mod colours;
 pub mod counted;
 pub mod kind;

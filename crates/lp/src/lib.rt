@@ -1,4 +1,6 @@
 // The integer model of a graph as text, for a solver.
+#![tactic(auto)]
+
 ghost use Rattle.lp.specs.Reading.{GraphsReadBack, ReadsBack, TextsDistinguish};
 ghost use Rattle.lp.specs.Samples.{Samples};
 

@@ -1,4 +1,6 @@
 // Reads an instance from standard input and prints its model, or the line of the refusal.
+#![tactic(auto)]
+
 use modeller::model_of;
 use std::io;
 use std::io::{Read, Write};

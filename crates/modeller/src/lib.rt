@@ -1,4 +1,6 @@
 // From the text of an instance to its model text: what the program `model` prints.
+#![tactic(auto)]
+
 ghost use Rattle.std.specs.Prelude.{◌≡◌, ◌/◌, ◌≤◌, min, length, IfOk, vec_len};
 ghost use Rattle.refusal.specs.Refusals.{refused_line};
 ghost use Rattle.packing.specs.Given.{orders_of};

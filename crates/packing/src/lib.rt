@@ -1,4 +1,6 @@
 // What is packed: items as they are given, and the definitions of pattern and packing in specs/.
+#![tactic(auto)]
+
 ghost use Rattle.std.specs.Prelude.{◌≡◌};
 ghost use Rattle.packing.specs.Given.{fields_of};
 ghost use Rattle.packing.specs.Laws.{FindsFlaws, ListsPatterns, OrdersPackable};

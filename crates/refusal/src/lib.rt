@@ -1,4 +1,6 @@
 // Why a text or a call is refused, and where.
+#![tactic(auto)]
+
 ghost use Rattle.std.specs.Prelude.{◌≡◌, IfOk, string_bytes};
 ghost use Rattle.refusal.specs.Refusals.{numbers_of, refused_line};
 

@@ -1,4 +1,6 @@
 // The whole way on two small instances: compile and reduce, put a flow on the arcs, accept it and hand out its bins.
+#![tactic(auto)]
+
 ghost use Rattle.std.specs.Prelude.{◌≡◌, [], ◌∷◌, length, IfOk};
 ghost use Rattle.limits.specs.Colours.{colours_meaning};
 ghost use Rattle.limits.specs.Numbers.{length_meaning};

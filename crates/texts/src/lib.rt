@@ -1,4 +1,6 @@
 // Reading packing instances from text.
+#![tactic(auto)]
+
 pub mod fields;
 pub mod instance;
 pub mod laws;
