@@ -2,8 +2,8 @@ use Rattle.std.proofs.Common.{take, ap, ◌∙◌, arith, length-take}
 use Rattle.lists.proofs.Cells.{take_within}
 use Rattle.lists.proofs.list.List.as_slice.Goals as goal
 
-pub slice-bounds-result-end : goal.slice-bounds-result-end
-slice-bounds-result-end g c =
+pub slice_bounds-result-end : goal.slice_bounds-result-end
+slice_bounds-result-end g c =
     let xs = c.args.self.now.cells.now in
     omega (arith, c.len-n.ensures, length-take c.args.self.now.len xs, length-take c.len-n.result xs)
 
