@@ -20,7 +20,7 @@ fn raised_load<K: Kind>(
     weight: &K::Load,
 ) -> Option<K::Load>
     requires { n < length (entries loads.now) }
-    ensures { option_map amount result ≡ joined (meaning kind.now) (slice_index_or (map amount (entries loads.now)) n []) (amount weight.now) }
+    ensures { option_map K.amount result ≡ joined (K.meaning kind.now) (slice_index_or (map K.amount (entries loads.now)) n []) (K.amount weight.now) }
 {
     let load = loads.get(n)?;
     kind.put(&load, weight)
@@ -43,10 +43,10 @@ fn take_arc<K: Kind>(
     requires paired { length (entries rows.old) ≡ length (entries loads.old) }
     ensures kept { GrewBoth rows.old rows.new loads.old loads.new }
     ensures cases { MatchOption result
-        (Lacking (joined (meaning kind.now) (slice_index_or (map amount (entries loads.old)) n []) (amount weight.now)) high
-        (map amount (entries loads.old)) rows.old loads.old)
-        (λ _. Led taking (joined (meaning kind.now) (slice_index_or (map amount (entries loads.old)) n []) (amount weight.now)) (fresh station) high n
-        (entries rows.old) (entries rows.new) (map amount (entries loads.old)) (map amount (entries loads.new))) }
+        (Lacking (joined (K.meaning kind.now) (slice_index_or (map K.amount (entries loads.old)) n []) (K.amount weight.now)) high
+        (map K.amount (entries loads.old)) rows.old loads.old)
+        (λ _. Led taking (joined (K.meaning kind.now) (slice_index_or (map K.amount (entries loads.old)) n []) (K.amount weight.now)) (fresh station) high n
+        (entries rows.old) (entries rows.new) (map K.amount (entries loads.old)) (map K.amount (entries loads.new))) }
 {
     if let Some(sum) = raised_load(kind, loads, n, weight) {
         let to = node(kind, rows, loads, high, sum, station)?;
@@ -71,9 +71,9 @@ fn pass_arc<K: Kind>(
     requires paired { length (entries rows.old) ≡ length (entries loads.old) }
     ensures kept { GrewBoth rows.old rows.new loads.old loads.new }
     ensures cases { MatchOption result
-        (Lacking (Some (slice_index_or (map amount (entries loads.old)) n [])) high (map amount (entries loads.old)) rows.old loads.old)
-        (λ _. Led passing (Some (slice_index_or (map amount (entries loads.old)) n [])) (fresh station) high n
-        (entries rows.old) (entries rows.new) (map amount (entries loads.old)) (map amount (entries loads.new))) }
+        (Lacking (Some (slice_index_or (map K.amount (entries loads.old)) n [])) high (map K.amount (entries loads.old)) rows.old loads.old)
+        (λ _. Led passing (Some (slice_index_or (map K.amount (entries loads.old)) n [])) (fresh station) high n
+        (entries rows.old) (entries rows.new) (map K.amount (entries loads.old)) (map K.amount (entries loads.new))) }
 {
     let load = loads.get(n)?;
     let to = node(kind, rows, loads, high, load, station)?;
@@ -95,7 +95,7 @@ pub(crate) fn take_arcs<K: Kind>(
     requires within { low ≤ length (entries loads.old) }
     requires paired { length (entries rows.old) ≡ length (entries loads.old) }
     ensures kept { GrewBoth rows.old rows.new loads.old loads.new }
-    ensures leads { Leads amount taking (λ a. joined (meaning kind.now) a (amount weight.now)) (fresh station) low
+    ensures leads { Leads K.amount taking (λ a. joined (K.meaning kind.now) a (K.amount weight.now)) (fresh station) low
         rows.old rows.new loads.old loads.new result }
 {
     let high = loads.len();
@@ -118,7 +118,7 @@ pub(crate) fn pass_arcs<K: Kind>(
     requires within { low ≤ length (entries loads.old) }
     requires paired { length (entries rows.old) ≡ length (entries loads.old) }
     ensures kept { GrewBoth rows.old rows.new loads.old loads.new }
-    ensures leads { Leads amount passing (λ a. Some a) (fresh station) low
+    ensures leads { Leads K.amount passing (λ a. Some a) (fresh station) low
         rows.old rows.new loads.old loads.new result }
 {
     let high = loads.len();

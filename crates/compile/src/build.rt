@@ -26,7 +26,7 @@ fn add_source<K: Kind>(
     requires loads { entries loads.old ≡ [] }
     ensures kept { GrewBoth rows.old rows.new loads.old loads.new }
     ensures cases { MatchOption result (Short rows.old loads.old 1)
-        (λ _. (entries rows.new ≡ row 1 0 None None ∷ []) × (map amount (entries loads.new) ≡ (meaning kind.now).empty ∷ [])) }
+        (λ _. (entries rows.new ≡ row 1 0 None None ∷ []) × (map K.amount (entries loads.new) ≡ (K.meaning kind.now).empty ∷ [])) }
 {
     rows.push(Row {
         item: 1,
@@ -48,14 +48,14 @@ fn inner_items<K: Kind>(
 ) -> Option<usize>
     requires some { 0 < length items.now }
     requires most { length items.now ≤ 64 }
-    requires sound { flaw (meaning kind.now) (orders_of items.now) ≡ None }
+    requires sound { flaw (K.meaning kind.now) (orders_of items.now) ≡ None }
     requires few { capacity loads.old ≤ 65535 }
     requires rows { entries rows.old ≡ row 1 0 None None ∷ [] }
-    requires loads { map amount (entries loads.old) ≡ (meaning kind.now).empty ∷ [] }
+    requires loads { map K.amount (entries loads.old) ≡ (K.meaning kind.now).empty ∷ [] }
     ensures kept { GrewBoth rows.old rows.new loads.old loads.new }
     ensures cases { MatchOption result
-        (Short rows.old loads.old (length (compiled (meaning kind.now) (items_of (meaning kind.now) items.now))))
-        (Begun (meaning kind.now) (items_of (meaning kind.now) items.now) (entries rows.new) (map amount (entries loads.new)) (length items.now - 1)) }
+        (Short rows.old loads.old (length (compiled (K.meaning kind.now) (items_of (K.meaning kind.now) items.now))))
+        (Begun (K.meaning kind.now) (items_of (K.meaning kind.now) items.now) (entries rows.new) (map K.amount (entries loads.new)) (length items.now - 1)) }
 {
     let last = items.len() - 1;
     let mut low = 0;
@@ -77,12 +77,12 @@ fn build<K: Kind>(
 ) -> Option<usize>
     requires some { 0 < length items.now }
     requires most { length items.now ≤ 64 }
-    requires sound { flaw (meaning kind.now) (orders_of items.now) ≡ None }
+    requires sound { flaw (K.meaning kind.now) (orders_of items.now) ≡ None }
     requires few { capacity loads.old ≤ 65535 }
     requires rows { entries rows.old ≡ [] }
     requires loads { entries loads.old ≡ [] }
     ensures kept { GrewBoth rows.old rows.new loads.old loads.new }
-    ensures built { Built amount (meaning kind.now) (items_of (meaning kind.now) items.now)
+    ensures built { Built K.amount (K.meaning kind.now) (items_of (K.meaning kind.now) items.now)
         rows.old rows.new loads.old loads.new result }
 {
     add_source(kind, rows, loads)?;
@@ -102,11 +102,11 @@ pub fn compile<K: Kind>(
     rows: &mut List<'_, Row>,
     memory: &mut [K::Load],
 ) -> Option<usize>
-    requires sound { flaw (meaning kind.now) (orders_of items.now) ≡ None }
+    requires sound { flaw (K.meaning kind.now) (orders_of items.now) ≡ None }
     requires few { length memory.old ≤ 65535 }
     ensures room { capacity rows.new ≡ capacity rows.old }
     ensures memory { SameMemory rows.new rows.old }
-    ensures compiles { Compiles amount (meaning kind.now) (items_of (meaning kind.now) items.now)
+    ensures compiles { Compiles K.amount (K.meaning kind.now) (items_of (K.meaning kind.now) items.now)
         rows.old rows.new memory.old memory.new result }
 {
     rows.truncate(0);

@@ -11,14 +11,14 @@ use refusal::Refusal;
 
 // A load of the item's weight, or none if its fields have no weight.
 pub(crate) fn weigh<K: Kind>(kind: &K, item: &Item<'_>) -> Option<K::Load>
-    ensures { option_map amount result ≡ (meaning kind.now).weight (fields_of item.now) }
+    ensures { option_map K.amount result ≡ (K.meaning kind.now).weight (fields_of item.now) }
 {
     kind.weigh(item.fields())
 }
 
 // Whether the item has a weight that fits alone.
 fn fits_alone<K: Kind>(kind: &K, item: &Item<'_>) -> bool
-    ensures { result ≡ fits_alone (meaning kind.now) ((meaning kind.now).weight (fields_of item.now)) }
+    ensures { result ≡ fits_alone (K.meaning kind.now) ((K.meaning kind.now).weight (fields_of item.now)) }
 {
     match weigh(kind, item) {
         Some(weight) => kind.put(&kind.empty(), &weight).is_some(),
@@ -28,14 +28,14 @@ fn fits_alone<K: Kind>(kind: &K, item: &Item<'_>) -> bool
 
 // Whether the item's demand is in its range, and its weight fits alone.
 fn is_fair<K: Kind>(kind: &K, item: &Item<'_>) -> bool
-    ensures { result ≡ fair (meaning kind.now) (order_of item.now) }
+    ensures { result ≡ fair (K.meaning kind.now) (order_of item.now) }
 {
     1 <= item.demand && item.demand <= MAX_DEMAND && fits_alone(kind, item)
 }
 
 // Refuses items with which something is wrong: none or too many of them, or else the lowest that is not fair.
 pub fn check_items<K: Kind>(kind: &K, items: &[Item<'_>]) -> Result<(), Refusal>
-    ensures { result ≡ verdict (flaw (meaning kind.now) (orders_of items.now)) }
+    ensures { result ≡ verdict (flaw (K.meaning kind.now) (orders_of items.now)) }
 {
     if items.is_empty() || items.len() > MAX_ITEMS {
         return Err(Refusal::BadItem { item: 0 });

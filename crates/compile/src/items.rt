@@ -28,12 +28,12 @@ fn stations<K: Kind>(
     requires few { capacity loads.old ≤ 65535 }
     requires within { low ≤ length (entries loads.old) }
     requires paired { length (entries rows.old) ≡ length (entries loads.old) }
-    requires first { drop low (entries rows.old) ≡ map (λ _. row item 0 None None) (drop low (map amount (entries loads.old))) }
+    requires first { drop low (entries rows.old) ≡ map (λ _. row item 0 None None) (drop low (map K.amount (entries loads.old))) }
     ensures kept { GrewBoth rows.old rows.new loads.old loads.new }
     ensures cases { MatchOption result
-        (Short rows.old loads.old (low + length (layer (meaning kind.now) (amount weight.now) most (drop low (map amount (entries loads.old))))))
-        (λ _. Stations (meaning kind.now) (amount weight.now) item most low
-        (entries rows.old) (entries rows.new) (map amount (entries loads.old)) (map amount (entries loads.new))) }
+        (Short rows.old loads.old (low + length (layer (K.meaning kind.now) (K.amount weight.now) most (drop low (map K.amount (entries loads.old))))))
+        (λ _. Stations (K.meaning kind.now) (K.amount weight.now) item most low
+        (entries rows.old) (entries rows.new) (map K.amount (entries loads.old)) (map K.amount (entries loads.new))) }
 {
     let mut from = low;
     for copies in 0..most {
@@ -93,14 +93,14 @@ pub(crate) fn inner_item<K: Kind>(
     requires few { capacity loads.old ≤ 65535 }
     requires within { low ≤ length (entries loads.old) }
     requires paired { length (entries rows.old) ≡ length (entries loads.old) }
-    requires first { drop low (entries rows.old) ≡ map (λ _. row item 0 None None) (drop low (map amount (entries loads.old))) }
+    requires first { drop low (entries rows.old) ≡ map (λ _. row item 0 None None) (drop low (map K.amount (entries loads.old))) }
     requires small { item ≤ 64 }
     ensures kept { GrewBoth rows.old rows.new loads.old loads.new }
     ensures cases { MatchOption result
-        (Short rows.old loads.old (low + length (layer (meaning kind.now) (amount weight.now) most (drop low (map amount (entries loads.old))))
-        + length (distinct same_list (layer (meaning kind.now) (amount weight.now) most (drop low (map amount (entries loads.old)))))))
-        (Followed (meaning kind.now) (amount weight.now) item most low
-        (entries rows.old) (entries rows.new) (map amount (entries loads.old)) (map amount (entries loads.new))) }
+        (Short rows.old loads.old (low + length (layer (K.meaning kind.now) (K.amount weight.now) most (drop low (map K.amount (entries loads.old))))
+        + length (distinct same_list (layer (K.meaning kind.now) (K.amount weight.now) most (drop low (map K.amount (entries loads.old)))))))
+        (Followed (K.meaning kind.now) (K.amount weight.now) item most low
+        (entries rows.old) (entries rows.new) (map K.amount (entries loads.old)) (map K.amount (entries loads.new))) }
 {
     stations(kind, rows, loads, low, weight, most, item)?;
     let next = Station {
@@ -124,13 +124,13 @@ pub(crate) fn last_item<K: Kind>(
     requires few { capacity loads.old ≤ 65535 }
     requires within { low ≤ length (entries loads.old) }
     requires paired { length (entries rows.old) ≡ length (entries loads.old) }
-    requires first { drop low (entries rows.old) ≡ map (λ _. row item 0 None None) (drop low (map amount (entries loads.old))) }
+    requires first { drop low (entries rows.old) ≡ map (λ _. row item 0 None None) (drop low (map K.amount (entries loads.old))) }
     requires small { item ≤ 64 }
     ensures kept { GrewBoth rows.old rows.new loads.old loads.new }
     ensures cases { MatchOption result
-        (Short rows.old loads.old (suc (low + length (layer (meaning kind.now) (amount weight.now) most (drop low (map amount (entries loads.old)))))))
-        (λ n. Ended (meaning kind.now) (amount weight.now) item most low
-        (entries rows.old) (entries rows.new) (map amount (entries loads.old)) (map amount (entries loads.new)) n
+        (Short rows.old loads.old (suc (low + length (layer (K.meaning kind.now) (K.amount weight.now) most (drop low (map K.amount (entries loads.old)))))))
+        (λ n. Ended (K.meaning kind.now) (K.amount weight.now) item most low
+        (entries rows.old) (entries rows.new) (map K.amount (entries loads.old)) (map K.amount (entries loads.new)) n
         × (n ≤ capacity loads.old)) }
 {
     stations(kind, rows, loads, low, weight, most, item)?;

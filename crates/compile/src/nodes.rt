@@ -24,9 +24,9 @@ fn find<K: Kind>(
     from: usize,
     sought: &K::Load,
 ) -> Option<usize>
-    ensures { MatchOption result (has same_list (amount sought.now) (drop from (map amount (entries loads.now))) ≡ false)
-        (λ n. (has same_list (amount sought.now) (drop from (map amount (entries loads.now))) ≡ true)
-        × (n ≡ from + index same_list (amount sought.now) (drop from (map amount (entries loads.now))))) }
+    ensures { MatchOption result (has same_list (K.amount sought.now) (drop from (map K.amount (entries loads.now))) ≡ false)
+        (λ n. (has same_list (K.amount sought.now) (drop from (map K.amount (entries loads.now))) ≡ true)
+        × (n ≡ from + index same_list (K.amount sought.now) (drop from (map K.amount (entries loads.now))))) }
 {
     for n in from..loads.len() {
         let load = loads.get(n)?;
@@ -52,9 +52,9 @@ pub(crate) fn node<K: Kind>(
     requires paired { length (entries rows.old) ≡ length (entries loads.old) }
     ensures kept { GrewBoth rows.old rows.new loads.old loads.new }
     ensures cases { MatchOption result
-        ((has same_list (amount load) (drop from (map amount (entries loads.old))) ≡ false)
+        ((has same_list (K.amount load) (drop from (map K.amount (entries loads.old))) ≡ false)
         × Short rows.old loads.old (suc (length (entries loads.old))))
-        (Noted (entries rows.old) (entries rows.new) (map amount (entries loads.old)) (map amount (entries loads.new)) from (amount load) (fresh station)) }
+        (Noted (entries rows.old) (entries rows.new) (map K.amount (entries loads.old)) (map K.amount (entries loads.new)) from (K.amount load) (fresh station)) }
 {
     if let Some(n) = find(kind, loads, from, &load) {
         return Some(n as u32);

@@ -90,7 +90,7 @@ impl<'a> Job<'a> {
         items: &[Item<'_>],
         loads: &mut [K::Load],
     ) -> Result<usize, Refusal>
-        ensures compiled { Compiles amount (meaning kind.now) (orders_of items.now) self.old.core self.new.core loads.old loads.new result }
+        ensures compiled { Compiles K.amount (K.meaning kind.now) (orders_of items.now) self.old.core self.new.core loads.old loads.new result }
         ensures spells { SpellsPatterns }
         ensures numbered { (CompiledStepped) × (NumberingFixed) }
     {

@@ -38,7 +38,7 @@ fn write_model<K: Kind>(
     loads: &mut [K::Load],
     out: &mut [u8],
 ) -> Result<usize, Refusal>
-    ensures { shown (answers (min (min (length rows.old) (length cells.old / 2)) 65535) View.Empty (calls (meaning kind.now) (orders_of items.now) (length loads.old) (length out.old)))
+    ensures { shown (answers (min (min (length rows.old) (length cells.old / 2)) 65535) View.Empty (calls (K.meaning kind.now) (orders_of items.now) (length loads.old) (length out.old)))
         ≡ bytes_in out.new result }
 {
     let mut job = Job::new(rows, cells);
@@ -84,7 +84,7 @@ fn bytes_of(
 
 // The model text of the items under a kind, or the line of the refusal.
 fn model_for<K: Kind>(heap: Global, kind: &K, items: &[Item<'_>]) -> Result<Vec<u8>, AllocError>
-    ensures { IfOk result (λ v. v.items ≡ modelled (meaning kind.now) (orders_of items.now)) }
+    ensures { IfOk result (λ v. v.items ≡ modelled (K.meaning kind.now) (orders_of items.now)) }
 {
     let blank = Row {
         item: 0,
@@ -108,7 +108,7 @@ fn model_under<K: Kind + Drop>(
     items: &[Item<'_>],
 ) -> Result<Vec<u8>, AllocError>
     requires { CountLimit count }
-    ensures { IfOk result (λ v. v.items ≡ modelled (under_count count (meaning kind)) (orders_of items.now)) }
+    ensures { IfOk result (λ v. v.items ≡ modelled (under_count count (K.meaning kind)) (orders_of items.now)) }
 {
     let Some(most) = count else {
         return model_for(heap, &kind, items);

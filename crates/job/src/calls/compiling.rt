@@ -43,7 +43,7 @@ impl<'a> Core<'a> {
         loads: &mut [K::Load],
     ) -> Result<usize, Refusal>
         requires { Sound self.old }
-        ensures { Compiles amount (meaning kind.now) (orders_of items.now) self.old self.new loads.old loads.new result }
+        ensures { Compiles K.amount (K.meaning kind.now) (orders_of items.now) self.old self.new loads.old loads.new result }
     {
         check_items(kind, items)?;
         let room = self.size().min(loads.len());

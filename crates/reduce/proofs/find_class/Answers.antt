@@ -7,24 +7,24 @@ use Rattle.reduce.specs.Reducing.{to}
 use Rattle.reduce.proofs.Scans.{search_hit, search_miss, search_end, search_stop, ends_tell}
 use Rattle.reduce.proofs.find_class.Goals as goal
 
-pub returns-then-not-same-station : goal.returns-then-not-same-station
-returns-then-not-same-station c =
+pub returns-then-not-same_station : goal.returns-then-not-same_station
+returns-then-not-same_station c =
     let g = entries c.args.rows.now in
     let xs = c.args.labels.now in
     let n = c.args.n in
     let t = c.loop-t.t in
     sym (c.loop-t.invariant
     ∙ search_stop c.requires.shaped.0 g c.requires.shaped.1 (to xs) xs n n t (omega (arith, c.loop-t.auto.t))
-    (λ same. false≢true (sym c.if-not-same-station.true ∙ c.same-station.ensures.1 same)))
+    (λ same. false≢true (sym c.if-not-same_station.true ∙ c.same_station.ensures.1 same)))
 
-pub returns-then-same-ends : goal.returns-then-same-ends
-returns-then-same-ends c =
+pub returns-then-same_ends : goal.returns-then-same_ends
+returns-then-same_ends c =
     let g = entries c.args.rows.now in
     let xs = c.args.labels.now in
     let n = c.args.n in
     let t = c.loop-t.t in
     let r = led (to xs) (at g n) in
-    let equal = ends_tell r (led (to xs) (at g t)) _ (c.same-station.ensures.0 c.if-not-same-station.false) c.same-ends.ensures ∙ c.if-same-ends.true in
+    let equal = ends_tell r (led (to xs) (at g t)) _ (c.same_station.ensures.0 c.if-not-same_station.false) c.same_ends.ensures ∙ c.if-same_ends.true in
     sym (c.loop-t.invariant ∙ search_hit (to xs) r g xs n t (omega (arith, c.requires.long, c.loop-t-test.true)) c.requires.long equal)
 
 pub loop-t-preserved : goal.loop-t-preserved
@@ -34,7 +34,7 @@ loop-t-preserved c =
     let n = c.args.n in
     let t = c.loop-t.t in
     let r = led (to xs) (at g n) in
-    let unequal = ends_tell r (led (to xs) (at g t)) _ (c.same-station.ensures.0 c.if-not-same-station.false) c.same-ends.ensures ∙ c.if-same-ends.false in
+    let unequal = ends_tell r (led (to xs) (at g t)) _ (c.same_station.ensures.0 c.if-not-same_station.false) c.same_ends.ensures ∙ c.if-same_ends.false in
     c.loop-t.invariant ∙ search_miss (to xs) r g xs n t (omega (arith, c.requires.long, c.loop-t-test.true)) c.requires.long unequal
 
 pub returns : goal.returns

@@ -17,6 +17,6 @@ loop-n-preserved c =
     let xs = c.loop-n.labels in
     let n = c.loop-n.n - 1 in
     let back : c.loop-n.n ≡ n + 1 = omega (arith, c.loop-n-test.true) in
-    class_added c.requires.shaped.0 g c.requires.shaped.1 xs n c.find-class.result
+    class_added c.requires.shaped.0 g c.requires.shaped.1 xs n c.find_class.result
     (omega (arith, c.loop-n.auto.n, c.loop-n-test.true, c.requires.long)) (c.loop-n.auto.labels ∙ c.requires.long)
-    (subst (λ (k : ℕ). drop k xs ≡ classes k (drop k g)) back c.loop-n.invariant) c.find-class.ensures
+    (subst (λ (k : ℕ). drop k xs ≡ classes k (drop k g)) back c.loop-n.invariant) c.find_class.ensures

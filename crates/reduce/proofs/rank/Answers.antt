@@ -4,8 +4,8 @@ use Rattle.reduce.proofs.rank.Goals as goal
 
 pub loop-i-preserved : goal.loop-i-preserved
 loop-i-preserved c =
-    ranking_step c.args.n c.args.cells.now c.requires.room c.requires.within c.loop-i.cells _ c.loop-i.count c.loop-i.i c.rank-value-number.result _
-    c.loop-i.invariant c.loop-i-test.true c.rank-value-number.ensures.value c.rank-value-number.ensures.cells c.max-count.ensures
+    ranking_step c.args.n c.args.cells.now c.requires.room c.requires.within c.loop-i.cells _ c.loop-i.count c.loop-i.i c.rank_value-number.result _
+    c.loop-i.invariant c.loop-i-test.true c.rank_value-number.ensures.value c.rank_value-number.ensures.cells c.max-count.ensures
 
 pub returns : goal.returns
 returns c =

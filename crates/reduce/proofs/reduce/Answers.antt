@@ -9,13 +9,13 @@ rank-count-requires c =
     let m = c.requires.shaped.0 in
     let st = c.requires.shaped.1 in
     let e = c.args.cells.now in
-    let l = c.find-classes.new.labels in
+    let l = c.find_classes.new.labels in
     let n = c.len-n.result in
     record {
-      room = room_left m g st e l n c.len-n.ensures c.find-classes.ensures c.requires.room;
+      room = room_left m g st e l n c.len-n.ensures c.find_classes.ensures c.requires.room;
       few = omega (arith, c.len-n.ensures, c.requires.few);
-      within = labels_within m g st e l n c.len-n.ensures c.find-classes.ensures c.requires.room;
-      clear = others_clear m g st e l n c.len-n.ensures c.find-classes.ensures c.requires.room c.requires.clear;
+      within = labels_within m g st e l n c.len-n.ensures c.find_classes.ensures c.requires.room;
+      clear = others_clear m g st e l n c.len-n.ensures c.find_classes.ensures c.requires.room c.requires.clear;
     }
 
 pub returns : goal.returns
@@ -24,10 +24,10 @@ returns c =
     let m = c.requires.shaped.0 in
     let st = c.requires.shaped.1 in
     let e = c.args.cells.now in
-    let l = c.find-classes.new.labels in
+    let l = c.find_classes.new.labels in
     let n = c.len-n.result in
     let n_is = c.len-n.ensures in
-    let l_is = c.find-classes.ensures in
+    let l_is = c.find_classes.ensures in
     let room = c.requires.room in
     let ranked = c.rank-count.ensures in
     let count = c.rank-count.result in

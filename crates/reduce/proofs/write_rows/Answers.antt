@@ -7,8 +7,8 @@ use Rattle.reduce.proofs.write_rows.Goals as goal
 pub loop-n-preserved : goal.loop-n-preserved
 loop-n-preserved c =
     let set = c.set.ensures in
-    writing_step c.args.rows.now c.loop-n.rows c.set.new.self c.args.numbers.now c.loop-n.n c.lead.result c.lead-row-row.result c.row-at.result
-    c.loop-n.invariant c.row-at.ensures c.lead-row-row.ensures c.lead.ensures set.entries set.spare set.memory
+    writing_step c.args.rows.now c.loop-n.rows c.set.new.self c.args.numbers.now c.loop-n.n c.lead.result c.lead_row-row.result c.row_at.result
+    c.loop-n.invariant c.row_at.ensures c.lead_row-row.ensures c.lead.ensures set.entries set.spare set.memory
 
 pub returns : goal.returns
 returns c =

@@ -7,8 +7,8 @@ use Rattle.compile.proofs.arcs.pass_arcs.Goals as goal
 pub loop-n-init : goal.loop-n-init
 loop-n-init g c = turn_start g.K.Kind.amount passing _ _ c.args.low c.args.rows.now c.args.loads.now c.requires.within c.requires.paired
 
-pub pass-arc-requires : goal.pass-arc-requires
-pass-arc-requires g c =
+pub pass_arc-requires : goal.pass_arc-requires
+pass_arc-requires g c =
     let longer = c.loop-n.invariant.kept.loads.longer in
     record {
       few = omega (arith, c.loop-n.invariant.kept.loads.room);
@@ -21,18 +21,18 @@ pass-arc-requires g c =
 pub loop-n-preserved : goal.loop-n-preserved
 loop-n-preserved g c =
     let wanted : List ℕ → Option (List ℕ) = λ a. Some a in
-    let led = c.in-ok-pass-arc.ensures in
+    let led = c.in_ok-pass_arc.ensures in
     turn_more g.K.Kind.amount passing wanted _ c.args.low c.args.rows.now c.args.loads.now c.requires.within c.requires.paired
     c.loop-n.rows c.loop-n.loads c.loop-n.n c.loop-n.invariant c.loop-n.auto.n (omega arith) c.len-high.result c.len-high.ensures
-    c.pass-arc.new.rows c.pass-arc.new.loads led.kept led.cases
+    c.pass_arc.new.rows c.pass_arc.new.loads led.kept led.cases
 
-pub returns-in-err-pass-arc : goal.returns-in-err-pass-arc
-returns-in-err-pass-arc g c =
+pub returns-in_err-pass_arc : goal.returns-in_err-pass_arc
+returns-in_err-pass_arc g c =
     let wanted : List ℕ → Option (List ℕ) = λ a. Some a in
-    let full = c.in-err-pass-arc.ensures in
+    let full = c.in_err-pass_arc.ensures in
     record {
       kept = grew_both_trans _ _ _ _ _ _ c.loop-n.invariant.kept full.kept;
-      leads = rw c.from-residual.ensures
+      leads = rw c.from_residual.ensures
           (turn_short g.K.Kind.amount passing wanted (fresh c.args.station) c.args.low c.args.rows.now c.args.loads.now c.requires.within c.requires.paired
           c.loop-n.rows c.loop-n.loads c.loop-n.n c.loop-n.invariant c.loop-n.auto.n (omega arith) c.len-high.result c.len-high.ensures full.cases);
     }

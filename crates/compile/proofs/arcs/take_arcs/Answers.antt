@@ -8,8 +8,8 @@ use Rattle.compile.proofs.arcs.take_arcs.Goals as goal
 pub loop-n-init : goal.loop-n-init
 loop-n-init g c = turn_start g.K.Kind.amount taking _ _ c.args.low c.args.rows.now c.args.loads.now c.requires.within c.requires.paired
 
-pub take-arc-requires : goal.take-arc-requires
-take-arc-requires g c =
+pub take_arc-requires : goal.take_arc-requires
+take_arc-requires g c =
     let longer = c.loop-n.invariant.kept.loads.longer in
     record {
       few = omega (arith, c.loop-n.invariant.kept.loads.room);
@@ -22,18 +22,18 @@ take-arc-requires g c =
 pub loop-n-preserved : goal.loop-n-preserved
 loop-n-preserved g c =
     let wanted : List ℕ → Option (List ℕ) = λ a. joined (g.K.Kind.meaning c.args.kind.now) a (g.K.Kind.amount c.args.weight.now) in
-    let led = c.in-ok-take-arc.ensures in
+    let led = c.in_ok-take_arc.ensures in
     turn_more g.K.Kind.amount taking wanted _ c.args.low c.args.rows.now c.args.loads.now c.requires.within c.requires.paired
     c.loop-n.rows c.loop-n.loads c.loop-n.n c.loop-n.invariant c.loop-n.auto.n (omega arith) c.len-high.result c.len-high.ensures
-    c.take-arc.new.rows c.take-arc.new.loads led.kept led.cases
+    c.take_arc.new.rows c.take_arc.new.loads led.kept led.cases
 
-pub returns-in-err-take-arc : goal.returns-in-err-take-arc
-returns-in-err-take-arc g c =
+pub returns-in_err-take_arc : goal.returns-in_err-take_arc
+returns-in_err-take_arc g c =
     let wanted : List ℕ → Option (List ℕ) = λ a. joined (g.K.Kind.meaning c.args.kind.now) a (g.K.Kind.amount c.args.weight.now) in
-    let full = c.in-err-take-arc.ensures in
+    let full = c.in_err-take_arc.ensures in
     record {
       kept = grew_both_trans _ _ _ _ _ _ c.loop-n.invariant.kept full.kept;
-      leads = rw c.from-residual.ensures
+      leads = rw c.from_residual.ensures
           (turn_short g.K.Kind.amount taking wanted (fresh c.args.station) c.args.low c.args.rows.now c.args.loads.now c.requires.within c.requires.paired
           c.loop-n.rows c.loop-n.loads c.loop-n.n c.loop-n.invariant c.loop-n.auto.n (omega arith) c.len-high.result c.len-high.ensures full.cases);
     }

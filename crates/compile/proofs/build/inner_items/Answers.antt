@@ -12,17 +12,17 @@ loop-i-init g c =
     let m = k.meaning c.args.kind.now in
     progress_start k.amount m (items_of m c.args.items.now) c.args.rows.now c.args.loads.now c.requires.rows c.requires.loads
 
-pub returns-in-err-weight : goal.returns-in-err-weight
-returns-in-err-weight g c =
+pub returns-in_err-weight : goal.returns-in_err-weight
+returns-in_err-weight g c =
     let k = g.K.Kind in
     let m = k.meaning c.args.kind.now in
-    absurd (has_weight m c.args.items.now c.requires.sound c.loop-i.i _ (omega arith) c.in-err-weight.ensures)
+    absurd (has_weight m c.args.items.now c.requires.sound c.loop-i.i _ (omega arith) c.in_err-weight.ensures)
 
-pub inner-item-requires : goal.inner-item-requires
-inner-item-requires g c =
+pub inner_item-requires : goal.inner_item-requires
+inner_item-requires g c =
     let k = g.K.Kind in
     let m = k.meaning c.args.kind.now in
-    let read = item_at m c.args.items.now c.requires.sound c.loop-i.i _ (omega arith) (k.amount c.in-ok-weight.weight) c.in-ok-weight.ensures in
+    let read = item_at m c.args.items.now c.requires.sound c.loop-i.i _ (omega arith) (k.amount c.in_ok-weight.weight) c.in_ok-weight.ensures in
     record {
       few = omega (arith, c.loop-i.invariant.kept.loads.room);
       within = progress_within k.amount m (items_of m c.args.items.now) c.args.rows.now c.loop-i.rows c.args.loads.now c.loop-i.loads
@@ -37,21 +37,21 @@ pub loop-i-preserved : goal.loop-i-preserved
 loop-i-preserved g c =
     let k = g.K.Kind in
     let m = k.meaning c.args.kind.now in
-    let read = item_at m c.args.items.now c.requires.sound c.loop-i.i _ (omega arith) (k.amount c.in-ok-weight.weight) c.in-ok-weight.ensures in
-    let made = c.in-ok-low.ensures in
+    let read = item_at m c.args.items.now c.requires.sound c.loop-i.i _ (omega arith) (k.amount c.in_ok-weight.weight) c.in_ok-weight.ensures in
+    let made = c.in_ok-low.ensures in
     progress_more k.amount m (items_of m c.args.items.now) c.args.rows.now c.loop-i.rows c.args.loads.now c.loop-i.loads
     c.loop-i.i c.loop-i.low _ read c.loop-i.invariant (omega (arith, number_of_items m c.args.items.now))
-    c.inner-item.new.rows c.inner-item.new.loads c.in-ok-low.low made.kept made.cases
+    c.inner_item.new.rows c.inner_item.new.loads c.in_ok-low.low made.kept made.cases
 
-pub returns-in-err-low : goal.returns-in-err-low
-returns-in-err-low g c =
+pub returns-in_err-low : goal.returns-in_err-low
+returns-in_err-low g c =
     let k = g.K.Kind in
     let m = k.meaning c.args.kind.now in
-    let read = item_at m c.args.items.now c.requires.sound c.loop-i.i _ (omega arith) (k.amount c.in-ok-weight.weight) c.in-ok-weight.ensures in
-    let full = c.in-err-low.ensures in
+    let read = item_at m c.args.items.now c.requires.sound c.loop-i.i _ (omega arith) (k.amount c.in_ok-weight.weight) c.in_ok-weight.ensures in
+    let full = c.in_err-low.ensures in
     record {
       kept = grew_both_trans _ _ _ _ _ _ c.loop-i.invariant.kept full.kept;
-      cases = rw c.from-residual-in-err-low.ensures
+      cases = rw c.from_residual-in_err-low.ensures
           (progress_short k.amount m (items_of m c.args.items.now) c.args.rows.now c.loop-i.rows c.args.loads.now c.loop-i.loads
           c.loop-i.i c.loop-i.low _ read c.loop-i.invariant (omega (arith, number_of_items m c.args.items.now)) full.cases);
     }

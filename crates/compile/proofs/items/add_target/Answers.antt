@@ -4,7 +4,7 @@ use Rattle.compile.proofs.items.add_target.Goals as goal
 
 pub returns : goal.returns
 returns g c =
-    let pushed = c.in-ok-push.ensures in
+    let pushed = c.in_ok-push.ensures in
     record {
       kept = grew_push _ _ _ _ pushed.cases pushed.memory;
       cases = (omega arith, pushed.cases.added, omega arith);

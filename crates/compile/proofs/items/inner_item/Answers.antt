@@ -3,10 +3,10 @@ use Rattle.compile.proofs.Growth.{grew_both_trans}
 use Rattle.compile.proofs.WholeItems.{item_length, item_paired, inner_answer}
 use Rattle.compile.proofs.items.inner_item.Goals as goal
 
-pub pass-arcs-requires : goal.pass-arcs-requires
-pass-arcs-requires g c =
+pub pass_arcs-requires : goal.pass_arcs-requires
+pass_arcs-requires g c =
     let k = g.K.Kind in
-    let made = c.in-ok-stations.ensures in
+    let made = c.in_ok-stations.ensures in
     record {
       few = omega (arith, made.kept.loads.room);
       within = omega (
@@ -21,10 +21,10 @@ pass-arcs-requires g c =
 pub returns : goal.returns
 returns g c =
     let k = g.K.Kind in
-    let made = c.in-ok-stations.ensures in
+    let made = c.in_ok-stations.ensures in
     record {
-      kept = grew_both_trans _ _ _ _ _ _ made.kept c.pass-arcs.ensures.kept;
+      kept = grew_both_trans _ _ _ _ _ _ made.kept c.pass_arcs.ensures.kept;
       cases = inner_answer k.amount (k.meaning c.args.kind.now) (k.amount c.args.weight.now) c.args.item c.args.most c.args.low
           c.args.rows.now c.stations.new.rows c.args.loads.now c.stations.new.loads c.requires.within c.requires.paired made.kept made.cases
-          c.pass-arcs.new.rows c.pass-arcs.new.loads c.pass-arcs.result c.pass-arcs.ensures.leads;
+          c.pass_arcs.new.rows c.pass_arcs.new.loads c.pass_arcs.result c.pass_arcs.ensures.leads;
     }

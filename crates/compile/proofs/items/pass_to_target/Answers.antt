@@ -10,7 +10,7 @@ loop-n-init c = (grew_same _ _ refl, reached_start (passing c.len-high.result) (
 
 pub loop-n-preserved : goal.loop-n-preserved
 loop-n-preserved c =
-    let wrote = c.set-pass.ensures in
+    let wrote = c.set_pass.ensures in
     let rs = entries c.args.rows.now in (
       grew_trans _ _ _ c.loop-n.invariant.0 (grew_set _ _ (ap length wrote.rows ∙ length-set (entries c.loop-n.rows) c.loop-n.n _) wrote.spare wrote.memory),
       wrote.rows ∙ reached_more (passing c.len-high.result) rs c.args.low (entries c.loop-n.rows) c.loop-n.n c.loop-n.auto.n (omega arith) c.loop-n.invariant.1,

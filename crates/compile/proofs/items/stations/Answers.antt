@@ -9,8 +9,8 @@ loop-copies-init g c =
     round_start k.amount (k.meaning c.args.kind.now) (k.amount c.args.weight.now) c.args.item c.args.low c.args.rows.now c.args.loads.now
     c.requires.within c.requires.paired c.requires.first
 
-pub take-arcs-requires : goal.take-arcs-requires
-take-arcs-requires g c =
+pub take_arcs-requires : goal.take_arcs-requires
+take_arcs-requires g c =
     let k = g.K.Kind in
     record {
       few = omega (arith, c.loop-copies.invariant.kept.loads.room);
@@ -23,18 +23,18 @@ take-arcs-requires g c =
 pub loop-copies-preserved : goal.loop-copies-preserved
 loop-copies-preserved g c =
     let k = g.K.Kind in
-    let led = c.in-ok-from.ensures in
+    let led = c.in_ok-from.ensures in
     round_more k.amount (k.meaning c.args.kind.now) (k.amount c.args.weight.now) c.args.item c.args.low c.args.rows.now c.args.loads.now
     c.requires.within c.requires.paired c.requires.first c.loop-copies.rows c.loop-copies.loads c.loop-copies.copies c.loop-copies.from c.loop-copies.invariant
-    c.take-arcs.new.rows c.take-arcs.new.loads _ led.kept led.leads
+    c.take_arcs.new.rows c.take_arcs.new.loads _ led.kept led.leads
 
-pub returns-in-err-from : goal.returns-in-err-from
-returns-in-err-from g c =
+pub returns-in_err-from : goal.returns-in_err-from
+returns-in_err-from g c =
     let k = g.K.Kind in
-    let full = c.in-err-from.ensures in
+    let full = c.in_err-from.ensures in
     record {
       kept = grew_both_trans _ _ _ _ _ _ c.loop-copies.invariant.kept full.kept;
-      cases = rw c.from-residual.ensures
+      cases = rw c.from_residual.ensures
           (round_short k.amount (k.meaning c.args.kind.now) (k.amount c.args.weight.now) c.args.item c.args.low c.args.rows.now c.args.loads.now
           c.requires.within c.requires.paired c.requires.first c.loop-copies.rows c.loop-copies.loads c.loop-copies.copies c.loop-copies.from c.loop-copies.invariant
           c.args.most (omega arith) full.leads);

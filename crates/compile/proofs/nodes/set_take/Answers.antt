@@ -4,9 +4,9 @@ use Rattle.lists.specs.Entries.{entries}
 use Rattle.graph.specs.Graph.{blank}
 use Rattle.compile.proofs.nodes.set_take.Goals as goal
 
-pub returns-in-default : goal.returns-in-default
-returns-in-default c =
-    record { rows = sym (set_past (entries c.args.rows.now) c.args.n _ c.in-default.ensures); spare = refl; memory = refl }
+pub returns-in_default : goal.returns-in_default
+returns-in_default c =
+    record { rows = sym (set_past (entries c.args.rows.now) c.args.n _ c.in_default.ensures); spare = refl; memory = refl }
 
 pub returns-in-Some : goal.returns-in-Some
 returns-in-Some c =

@@ -5,14 +5,14 @@ use Rattle.flow.specs.Arcs.{is}
 use Rattle.flow.proofs.Inflow.{in_none, in_some, in_limited}
 use Rattle.flow.proofs.scans.add_inflow.Goals as goal
 
-pub returns-in-default : goal.returns-in-default
-returns-in-default c = in_none (entries c.args.rows.now) c.args.flow.now c.args.arc c.args.inflows.now c.requires.before c.in-default.ensures
+pub returns-in_default : goal.returns-in_default
+returns-in_default c = in_none (entries c.args.rows.now) c.args.flow.now c.args.arc c.args.inflows.now c.requires.before c.in_default.ensures
 
 pub bounds-inflows-target : goal.bounds-inflows-target
 bounds-inflows-target c = omega (arith, c.requires.before.long, c.requires.fits.nodes, (c.requires.upward c.args.arc c.in-Some.target (sym c.in-Some.ensures)).1)
 
-pub overflow-add-inflows : goal.overflow-add-inflows
-overflow-add-inflows c =
+pub overflow_add-inflows : goal.overflow_add-inflows
+overflow_add-inflows c =
     let g = entries c.args.rows.now in
     let k = c.in-Some.target in
     let low = (c.requires.upward c.args.arc k (sym c.in-Some.ensures)).1 in

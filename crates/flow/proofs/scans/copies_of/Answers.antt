@@ -13,7 +13,7 @@ loop-arc-preserved c =
     let a = c.loop-arc.arc in
     let more = carried_more f (takes_item g c.args.item) a in
     let few = cond_le (takes_item g c.args.item a) (on f a) _ (c.requires.limited a) in
-    (omega (arith, more, c.loop-arc.invariant.0, c.taken-on.ensures), omega (arith, c.loop-arc.invariant.1, few, c.taken-on.ensures))
+    (omega (arith, more, c.loop-arc.invariant.0, c.taken_on.ensures), omega (arith, c.loop-arc.invariant.1, few, c.taken_on.ensures))
 
 pub returns : goal.returns
 returns c =

@@ -18,14 +18,14 @@ loop-item-preserved c =
     let j = holding (entries c.args.rows.now) c.args.flow.now (demands_of c.args.items.now) in
     let n = c.loop-item.item in
     lowest_on (short j) n c.loop-item.invariant
-    (le-ltb _ _ (omega (arith, entry_demand c.args.items.now n (omega arith) (omega arith), c.copies-of.ensures, c.if-copies-of-items.false)))
+    (le-ltb _ _ (omega (arith, entry_demand c.args.items.now n (omega arith) (omega arith), c.copies_of.ensures, c.if-copies_of-items.false)))
 
-pub returns-then-copies-of-items : goal.returns-then-copies-of-items
-returns-then-copies-of-items c =
+pub returns-then-copies_of-items : goal.returns-then-copies_of-items
+returns-then-copies_of-items c =
     let j = holding (entries c.args.rows.now) c.args.flow.now (demands_of c.args.items.now) in
     let n = c.loop-item.item in
     sym (lowest_here (short j) n (suc (length (demands_of c.args.items.now))) (omega (arith, demands_long c.args.items.now)) c.loop-item.invariant
-    (lt-ltb _ _ (omega (arith, entry_demand c.args.items.now n (omega arith) (omega arith), c.copies-of.ensures, c.if-copies-of-items.true))))
+    (lt-ltb _ _ (omega (arith, entry_demand c.args.items.now n (omega arith) (omega arith), c.copies_of.ensures, c.if-copies_of-items.true))))
 
 pub returns : goal.returns
 returns c =

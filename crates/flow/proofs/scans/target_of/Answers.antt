@@ -2,5 +2,5 @@ use Rattle.std.proofs.Common.{sym}
 use Rattle.flow.proofs.Scanning.{none_past}
 use Rattle.flow.proofs.scans.target_of.Goals as goal
 
-pub returns-in-default : goal.returns-in-default
-returns-in-default c = sym (none_past _ c.args.arc c.in-default.ensures)
+pub returns-in_default : goal.returns-in_default
+returns-in_default c = sym (none_past _ c.args.arc c.in_default.ensures)

@@ -8,4 +8,4 @@ pub returns : goal.returns
 returns c =
     let self = c.args.self in
     let told = c.numbers.ensures in
-    sym (firsts_all 4 c.numbers.result told.long) ∙ told.value ∙ ap (λ s. and_then s (λ _. numbers_at self.line (self.number + 1) 4 (words_left self) [])) c.in-ok-expect.ensures
+    sym (firsts_all 4 c.numbers.result told.long) ∙ told.value ∙ ap (λ s. and_then s (λ _. numbers_at self.line (self.number + 1) 4 (words_left self) [])) c.in_ok-expect.ensures

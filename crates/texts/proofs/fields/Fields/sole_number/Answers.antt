@@ -8,6 +8,6 @@ returns c =
     let self = c.args.self in
     let told = c.number.ensures in
     record {
-      value = told.value ∙ ap (λ s. and_then s (λ _. number_at c.args.low c.args.high self.line (self.number + 1) (words_left self))) c.in-ok-expect.ensures;
+      value = told.value ∙ ap (λ s. and_then s (λ _. number_at c.args.low c.args.high self.line (self.number + 1) (words_left self))) c.in_ok-expect.ensures;
       range = told.range;
     }

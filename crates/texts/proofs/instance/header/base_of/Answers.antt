@@ -6,7 +6,7 @@ use Rattle.texts.proofs.instance.header.base_of.Goals as goal
 pub returns-in-err-sole-number : goal.returns-in-err-sole-number
 returns-in-err-sole-number c =
     let letter = c.in-Some-L.ensures in
-    stopped c.from-residual.result c.from-residual.ensures.1 ∙ length_read c.args.fields c.letter.new.self _ c.requires letter.value letter.moved (omega arith) (Err _) c.in-err-sole-number.ensures.value
+    stopped c.from_residual.result c.from_residual.ensures.1 ∙ length_read c.args.fields c.letter.new.self _ c.requires letter.value letter.moved (omega arith) (Err _) c.in-err-sole-number.ensures.value
 
 pub returns-in-err-sole-number-2 : goal.returns-in-err-sole-number-2
 returns-in-err-sole-number-2 c =

@@ -5,4 +5,4 @@ use Rattle.texts.proofs.instance.header.count_limit_of.Goals as goal
 pub returns-in-Some-N : goal.returns-in-Some-N
 returns-in-Some-N c =
     let letter = c.in-Some-N.ensures in
-    count_limit_read c.args.fields c.letter.new.self _ c.requires letter.value letter.moved (omega arith) c.sole-number.result c.sole-number.ensures.value
+    count_limit_read c.args.fields c.letter.new.self _ c.requires letter.value letter.moved (omega arith) c.sole_number.result c.sole_number.ensures.value

@@ -6,4 +6,4 @@ use Rattle.texts.proofs.instance.reading.read_items.Given as goal
 
 abbrev pub invariant-loop : goal.invariant-loop
 invariant-loop l =
-    (vec_len l.items ≡ l.counter) × (vec_capacity l.initial.items ≤ vec_capacity l.items) × LinesMoved l.counter l.initial.lines l.lines × (items_at l.field-count (l.initial.lines.number + l.counter + 1) (l.n - l.counter) (lines_left l.lines) (entries_in (vec_items l.items)) ≡ items_at l.field-count (l.initial.lines.number + 1) l.n (lines_left l.initial.lines) [])
+    (vec_len l.items ≡ l.counter) × (vec_capacity l.initial.items ≤ vec_capacity l.items) × LinesMoved l.counter l.initial.lines l.lines × (items_at l.field_count (l.initial.lines.number + l.counter + 1) (l.n - l.counter) (lines_left l.lines) (entries_in (vec_items l.items)) ≡ items_at l.field_count (l.initial.lines.number + 1) l.n (lines_left l.initial.lines) [])

@@ -7,17 +7,17 @@ use Rattle.texts.proofs.instance.reading.read_text.Goals as goal
 use Rattle.texts.proofs.instance.reading.read_text.Goals.{After-new-lines}
 
 started : (c : After-new-lines) → reads c.args.text.now ≡ reading sections c.new-lines.result
-started c = reads_on c.args.text.now _ _ c.in-ok-check-text.ensures c.new-lines.ensures
+started c = reads_on c.args.text.now _ _ c.in_ok-check_text.ensures c.new-lines.ensures
 
-pub returns-in-err-check-text : goal.returns-in-err-check-text
-returns-in-err-check-text c = stopped_at _ _ _ (reads_not c.args.text.now _ c.in-err-check-text.ensures) c.from-residual.ensures.1
+pub returns-in_err-check_text : goal.returns-in_err-check_text
+returns-in_err-check_text c = stopped_at _ _ _ (reads_not c.args.text.now _ c.in_err-check_text.ensures) c.from_residual.ensures.1
 
-pub returns-in-err-limits : goal.returns-in-err-limits
-returns-in-err-limits c = stopped_at _ _ _ (started (goal.at.returns-in-err-limits c).After-new-lines ∙ c.in-err-limits.ensures) c.from-residual-in-err-limits.ensures.1
+pub returns-in_err-limits : goal.returns-in_err-limits
+returns-in_err-limits c = stopped_at _ _ _ (started (goal.at.returns-in_err-limits c).After-new-lines ∙ c.in_err-limits.ensures) c.from_residual-in_err-limits.ensures.1
 
-pub returns-in-err-read-items-section : goal.returns-in-err-read-items-section
-returns-in-err-read-items-section c =
-    stopped_at _ _ _ (started (goal.at.returns-in-err-read-items-section c).After-new-lines ∙ c.in-ok-limits.ensures ∙ c.in-err-read-items-section.ensures) c.from-residual-in-err-read-items-section.ensures.1
+pub returns-in_err-read_items_section : goal.returns-in_err-read_items_section
+returns-in_err-read_items_section c =
+    stopped_at _ _ _ (started (goal.at.returns-in_err-read_items_section c).After-new-lines ∙ c.in_ok-limits.ensures ∙ c.in_err-read_items_section.ensures) c.from_residual-in_err-read_items_section.ensures.1
 
 pub returns : goal.returns
-returns c = started (goal.at.returns c).After-new-lines ∙ c.in-ok-limits.ensures ∙ c.in-ok-read-items-section.ensures
+returns c = started (goal.at.returns c).After-new-lines ∙ c.in_ok-limits.ensures ∙ c.in_ok-read_items_section.ensures
