@@ -37,7 +37,7 @@ fn breaks(k: usize) -> bool
 
 // The line break before an entry that follows k others, if there is one.
 pub(crate) fn write_break<S: Sink>(sink: &mut S, k: usize)
-    ensures { Took step sink.old (break k) sink.new }
+    ensures { Took S.step sink.old (break k) sink.new }
 {
     if breaks(k) {
         write_bytes(sink, b"\n");
@@ -45,7 +45,7 @@ pub(crate) fn write_break<S: Sink>(sink: &mut S, k: usize)
 }
 
 fn write_lead<S: Sink>(sink: &mut S, lead: Lead, k: usize)
-    ensures { Took step sink.old (leading lead k) sink.new }
+    ensures { Took S.step sink.old (leading lead k) sink.new }
 {
     match lead {
         Lead::Listed => write_bytes(sink, b" "),
@@ -69,7 +69,7 @@ pub(crate) fn write_arc_if<S: Sink>(
     arc: usize,
 ) -> usize
     requires { k < 2 ^ 32 }
-    ensures took { Took step sink.old (entries (arc_entry lead) k (only_if there arc)) sink.new }
+    ensures took { Took S.step sink.old (entries (arc_entry lead) k (only_if there arc)) sink.new }
     ensures count { result ≡ k + length (only_if there arc) }
 {
     if !there {
@@ -85,7 +85,7 @@ pub(crate) fn write_arc_if<S: Sink>(
 // The variables of all arcs, by rising number, after z.
 pub(crate) fn write_variables<S: Sink>(sink: &mut S, rows: &[Row])
     requires { length rows.now ≤ 65535 }
-    ensures { Took step sink.old (entries listed 1 (map X (all_arcs rows.now))) sink.new }
+    ensures { Took S.step sink.old (entries listed 1 (map X (all_arcs rows.now))) sink.new }
 {
     let mut count = 1;
     for arc in 0..2 * rows.len() {

@@ -17,7 +17,7 @@ use graph::Row;
 // What leaves a node: its pass arc, then its take arc. Answers how many terms these are.
 fn write_outgoing<S: Sink>(sink: &mut S, row: Row, node: usize) -> usize
     requires { node ≤ 65535 }
-    ensures took { Took step sink.old (entries term 0 (plus (outgoing row node))) sink.new }
+    ensures took { Took S.step sink.old (entries term 0 (plus (outgoing row node))) sink.new }
     ensures count { result ≡ length (plus (outgoing row node)) }
     ensures few { result ≤ 2 }
 {
@@ -30,7 +30,7 @@ fn write_supply<S: Sink>(sink: &mut S, graph: LinkedGraph, node: usize, k: usize
     requires ready { Ready graph }
     requires there { node < length graph.rows.now }
     requires before { k ≤ 2 }
-    ensures { Took step sink.old (entries term k (supply graph.entry.rows.now node)) sink.new }
+    ensures { Took S.step sink.old (entries term k (supply graph.entry.rows.now node)) sink.new }
 {
     if node == 0 {
         write_break(sink, k);
@@ -43,7 +43,7 @@ fn write_supply<S: Sink>(sink: &mut S, graph: LinkedGraph, node: usize, k: usize
 fn write_node_row<S: Sink>(sink: &mut S, graph: LinkedGraph, node: usize)
     requires ready { Ready graph }
     requires there { node < length graph.rows.now }
-    ensures { Took step sink.old (constraint (node_row graph.entry.rows.now node)) sink.new }
+    ensures { Took S.step sink.old (constraint (node_row graph.entry.rows.now node)) sink.new }
 {
     write_bytes(sink, b" n");
     write_number(sink, node);
@@ -55,7 +55,7 @@ fn write_node_row<S: Sink>(sink: &mut S, graph: LinkedGraph, node: usize)
 
 pub(crate) fn write_node_rows<S: Sink>(sink: &mut S, graph: LinkedGraph)
     requires { Ready graph }
-    ensures { Took step sink.old (flat_map constraint (node_rows graph.entry.rows.now)) sink.new }
+    ensures { Took S.step sink.old (flat_map constraint (node_rows graph.entry.rows.now)) sink.new }
 {
     for node in 0..graph.rows.len().saturating_sub(1) {
         write_node_row(sink, graph, node);
@@ -67,7 +67,7 @@ fn write_takes<S: Sink>(sink: &mut S, rows: &[Row], item: usize, start: usize) -
     requires few { length rows.now ≤ 65535 }
     requires order { InOrder rows.now }
     requires begin { Begins rows.now start item }
-    ensures took { Took step sink.old (entries term 0 (plus (item_arcs rows.now item))) sink.new }
+    ensures took { Took S.step sink.old (entries term 0 (plus (item_arcs rows.now item))) sink.new }
     ensures end { Begins rows.now result (item + 1) }
 {
     let mut node = start;
@@ -96,7 +96,7 @@ fn write_item_row<S: Sink>(
     requires few { length rows.now ≤ 65535 }
     requires order { InOrder rows.now }
     requires begin { Begins rows.now start item }
-    ensures took { Took step sink.old (constraint (item_row rows.now item demand)) sink.new }
+    ensures took { Took S.step sink.old (constraint (item_row rows.now item demand)) sink.new }
     ensures end { Begins rows.now result (item + 1) }
 {
     write_bytes(sink, b" d");
@@ -112,7 +112,7 @@ fn write_item_row<S: Sink>(
 // The items are numbered from 1.
 pub(crate) fn write_item_rows<S: Sink>(sink: &mut S, graph: LinkedGraph, demands: &[u32])
     requires { Ready graph }
-    ensures { Took step sink.old (flat_map constraint (item_rows graph.entry.rows.now 1 demands.now)) sink.new }
+    ensures { Took S.step sink.old (flat_map constraint (item_rows graph.entry.rows.now 1 demands.now)) sink.new }
 {
     let mut start = 0;
     for i in 0..demands.len() {

@@ -39,7 +39,7 @@ pub(crate) fn write_linked<S: Sink>(sink: &mut S, next: &[u32], start: usize, le
     requires few { length next.now ≤ 131070 }
     requires before { k ≤ 2 }
     requires rising { Rising next.now }
-    ensures { (arcs : List ℕ) → Chain next.now start arcs → Took step sink.old (entries (arc_entry lead) k arcs) sink.new }
+    ensures { (arcs : List ℕ) → Chain next.now start arcs → Took S.step sink.old (entries (arc_entry lead) k arcs) sink.new }
 {
     let mut arc = start;
     let mut count = k;
@@ -54,7 +54,7 @@ pub(crate) fn write_incoming<S: Sink>(sink: &mut S, graph: LinkedGraph, node: us
     requires ready { Ready graph }
     requires there { node < length graph.rows.now }
     requires before { k ≤ 2 }
-    ensures { Took step sink.old (entries term k (minus (arcs_into graph.entry.rows.now node))) sink.new }
+    ensures { Took S.step sink.old (entries term k (minus (arcs_into graph.entry.rows.now node))) sink.new }
 {
     let start = graph.first[node] as usize;
     write_linked(sink, graph.next, start, Lead::TakenOff, k);

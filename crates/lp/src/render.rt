@@ -21,7 +21,7 @@ const ARCS: usize = 2 * NODES;
 
 fn write_model<S: Sink>(sink: &mut S, graph: LinkedGraph, demands: &[u32])
     requires { Ready graph }
-    ensures { Took step sink.old (text (model graph.entry.rows.now demands.now)) sink.new }
+    ensures { Took S.step sink.old (text (model graph.entry.rows.now demands.now)) sink.new }
 {
     write_bytes(sink, b"Minimize\n obj: z\nSubject To\n");
     write_node_rows(sink, graph);

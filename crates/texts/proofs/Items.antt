@@ -1,6 +1,5 @@
 -- An item line, field by field, and names that are known.
 use Rattle.std.proofs.Common.{◌≡◌, ℕ, suc, ◌+◌, ◌-◌, ◌<◌, ◌≤◌, Bool, true, false, ◌||◌, List, [], ◌∷◌, ◌++◌, map, length, get_or, drop, Ok, Err, Decides, sym, refl, ap, ◌∙◌, arith}
-use Rattle.std.specs.Cmp.Lexicographic.{Matches}
 use Rattle.std.specs.Str.{bytes_eq}
 use Rattle.std.proofs.lemmas.Slice.Eq.{slice_eq-Decides, bytes_eq-Decides}
 use Rattle.std.proofs.lemmas.List.{drop_more, drop_all, map_push}
@@ -11,15 +10,6 @@ use Rattle.packing.specs.declared.Item.{Item}
 use Rattle.texts.specs.Entries.{entry_of, entries_in, names_in}
 use Rattle.texts.specs.Grammar.{Read, Entry, and_then, shape, name_at, numbers_at, number_at, item_of, item_at, items_at, names_of, known}
 use Rattle.texts.specs.Parts.{words_left, Moved}
-
-pub known_more : (w : List ℕ) (items : List Item) (i : ℕ) (d : Item) (r : Bool) → i < length items → Matches (λ (a b : ℕ) (t : Bool). Decides t (a ≡ b)) (get_or items i d).name.now w r → known w (names_in (drop i items)) ≡ (r || known w (names_in (drop (i + 1) items)))
-known_more w items i d r h m =
-    let n = (get_or items i d).name.now in
-    let same = same_from_decides r (bytes_eq n w) (slice_eq-Decides Decides-eqb n w r m) (bytes_eq-Decides n w) in
-    ap (λ l. known w (names_in l)) (drop_more items i d h) ∙ ap (λ t. t || known w (names_in (drop (i + 1) items))) (sym same)
-
-pub known_none : (w : List ℕ) (items : List Item) (i : ℕ) → length items ≤ i → known w (names_in (drop i items)) ≡ false
-known_none w items i h = ap (λ l. known w (names_in l)) (drop_all i items h)
 
 -- what is left of an item line after its name and its fields
 pub item_demand : (wide : ℕ) (names : List (List ℕ)) (f₀ f₁ f₂ : Fields) (u : Unit {0}) (name : List ℕ) (xs : List ℕ) (r : Read ℕ) →

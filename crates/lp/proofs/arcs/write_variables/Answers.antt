@@ -18,11 +18,11 @@ loop-arc-preserved g c =
     let rows = c.args.rows.now in
     let p : ℕ → Bool = λ a. is_some (head rows a) in
     let n = c.loop-arc.arc in
-    let b = c.is-some-there.result in
-    let here = c.is-some-there.ensures ∙ ap is_some (c.target-of.ensures ∙ ap (λ r. leads r n) (get_or_default rows (n / 2) _ blank (omega arith))) in (
-      entry_more (arc_entry Listed) 1 p n c.loop-arc.count b here c.loop-arc.invariant.1 c.loop-arc.invariant.0 c.write-arc-if-count.ensures.took,
-      length_more 1 p n c.loop-arc.count b here c.loop-arc.invariant.1 c.write-arc-if-count.ensures.count,
-      omega (arith, c.write-arc-if-count.ensures.count, only_one b n),
+    let b = c.is_some-there.result in
+    let here = c.is_some-there.ensures ∙ ap is_some (c.target_of.ensures ∙ ap (λ r. leads r n) (get_or_default rows (n / 2) _ blank (omega arith))) in (
+      entry_more (arc_entry Listed) 1 p n c.loop-arc.count b here c.loop-arc.invariant.1 c.loop-arc.invariant.0 c.write_arc_if-count.ensures.took,
+      length_more 1 p n c.loop-arc.count b here c.loop-arc.invariant.1 c.write_arc_if-count.ensures.count,
+      omega (arith, c.write_arc_if-count.ensures.count, only_one b n),
     )
 
 pub returns : goal.returns

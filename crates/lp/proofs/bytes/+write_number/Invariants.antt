@@ -1,4 +1,4 @@
 use Rattle.lp.proofs.bytes.+write_number.Given as goal
 
-abbrev pub decreases-write-number : goal.decreases-write-number
-decreases-write-number g l = l.n
+abbrev pub decreases-write_number : goal.decreases-write_number
+decreases-write_number g l = l.n

@@ -13,8 +13,8 @@ loop-i-init g c = (none, c.requires.begin)
 
 pub loop-i-preserved : goal.loop-i-preserved
 loop-i-preserved g c = (
-  same_bytes (item_rows_next c.args.graph.rows.now c.args.demands.now c.loop-i.i (omega arith)) (joins c.loop-i.invariant.0 c.write-item-row-start.ensures.took),
-  c.write-item-row-start.ensures.end,
+  same_bytes (item_rows_next c.args.graph.rows.now c.args.demands.now c.loop-i.i (omega arith)) (joins c.loop-i.invariant.0 c.write_item_row-start.ensures.took),
+  c.write_item_row-start.ensures.end,
 )
 
 pub returns : goal.returns

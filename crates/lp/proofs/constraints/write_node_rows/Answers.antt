@@ -16,7 +16,7 @@ loop-node-preserved g c =
     let row = node_row c.args.graph.rows.now in
     let n = c.loop-node.node in
     same_bytes (joined_one constraint (map row (numbers (λ n. true) n)) (row n) ∙ ap (flat_map constraint) (sym (all_more row n)))
-    (joins c.loop-node.invariant c.write-node-row.ensures)
+    (joins c.loop-node.invariant c.write_node_row.ensures)
 
 pub returns : goal.returns
 returns g c =

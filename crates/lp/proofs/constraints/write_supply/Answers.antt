@@ -5,8 +5,8 @@ use Rattle.lp.proofs.constraints.write_supply.Goals as goal
 pub returns-then-node-eq0 : goal.returns-then-node-eq0
 returns-then-node-eq0 g c =
     same_bytes (source_supply c.args.graph.rows.now c.args.node c.args.k c.if-node-eq0.true)
-    (joins c.write-break.ensures c.write-bytes.ensures)
+    (joins c.write_break.ensures c.write_bytes.ensures)
 
 pub returns-else-node-eq0 : goal.returns-else-node-eq0
 returns-else-node-eq0 g c =
-    same_bytes (inner_supply c.args.graph.rows.now c.args.node c.args.k c.if-node-eq0.false) c.write-incoming.ensures
+    same_bytes (inner_supply c.args.graph.rows.now c.args.node c.args.k c.if-node-eq0.false) c.write_incoming.ensures

@@ -5,14 +5,14 @@ use Rattle.lp.proofs.constraints.write_takes.Goals as goal
 pub loop-node-init : goal.loop-node-init
 loop-node-init g c = reached_start g.S.Sink.step c.args.rows.now c.args.item c.args.start c.requires.begin c.args.sink.now
 
-pub write-arc-if-count-requires : goal.write-arc-if-count-requires
-write-arc-if-count-requires g c =
+pub write_arc_if-count-requires : goal.write_arc_if-count-requires
+write_arc_if-count-requires g c =
     omega (arith, reached_few g.S.Sink.step c.args.rows.now c.args.item c.args.start c.requires.begin c.loop-node.invariant c.requires.few)
 
 pub loop-node-preserved : goal.loop-node-preserved
 loop-node-preserved g c =
-    reached_more g.S.Sink.step c.args.rows.now c.args.item c.args.start c.requires.begin c.loop-node.invariant c.is-some.result
-    c.loop-node-test.true c.if-rows-node.true c.is-some.ensures c.write-arc-if-count.ensures.took c.write-arc-if-count.ensures.count
+    reached_more g.S.Sink.step c.args.rows.now c.args.item c.args.start c.requires.begin c.loop-node.invariant c.is_some.result
+    c.loop-node-test.true c.if-rows-node.true c.is_some.ensures c.write_arc_if-count.ensures.took c.write_arc_if-count.ensures.count
 
 pub returns-else-rows-node : goal.returns-else-rows-node
 returns-else-rows-node g c =

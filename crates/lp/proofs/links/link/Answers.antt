@@ -12,8 +12,8 @@ loop-arc-init c =
     (subst (λ ys. Half g (replicate places end) ys (2 * length g)) (sym (c.fill-2.ensures.after (λ y e. e)))
     (half_start g places end c.requires.nodes c.requires.arcs c.requires.few))
 
-pub link-arc-requires : goal.link-arc-requires
-link-arc-requires c = record {
+pub link_arc-requires : goal.link_arc-requires
+link_arc-requires c = record {
   few = c.loop-arc.invariant.few;
   within = omega (arith, c.loop-arc.invariant.low, c.loop-arc.invariant.arcs);
   inside =
@@ -24,7 +24,7 @@ link-arc-requires c = record {
 pub loop-arc-preserved : goal.loop-arc-preserved
 loop-arc-preserved c =
     half_next c.loop-arc.arc c.loop-arc-test.true c.loop-arc.invariant (λ v e. c.requires.inside (c.loop-arc.arc - 1) v e)
-    c.link-arc.ensures.first c.link-arc.ensures.next
+    c.link_arc.ensures.first c.link_arc.ensures.next
 
 pub returns : goal.returns
 returns c = half_all c.loop-arc.arc c.loop-arc-test.false c.loop-arc.invariant

@@ -8,5 +8,5 @@ link-requires c =
     let inside = layered_inside c.requires.layered.1 in
     search rules
 
-pub fill-if-fits-requires : goal.fill-if-fits-requires
-fill-if-fits-requires c = record { few = c.requires.few; order = layered_order c.requires.layered.1; begin = first_begins c.requires.layered.1; linked = c.link.ensures }
+pub fill_if_fits-requires : goal.fill_if_fits-requires
+fill_if_fits-requires c = record { few = c.requires.few; order = layered_order c.requires.layered.1; begin = first_begins c.requires.layered.1; linked = c.link.ensures }

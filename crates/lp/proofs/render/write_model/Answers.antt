@@ -9,5 +9,5 @@ unfolding text
 returns g c =
     let rows = c.args.graph.rows.now in
     let all = same_bytes (joined_parts constraint (node_rows rows) (item_rows rows 1 c.args.demands.now))
-    (joins c.write-node-rows.ensures c.write-item-rows.ensures) in
-    joins c.write-bytes.ensures (joins all (joins c.write-bytes-2.ensures (joins c.write-variables.ensures c.write-bytes-3.ensures)))
+    (joins c.write_node_rows.ensures c.write_item_rows.ensures) in
+    joins c.write_bytes.ensures (joins all (joins c.write_bytes-2.ensures (joins c.write_variables.ensures c.write_bytes-3.ensures)))

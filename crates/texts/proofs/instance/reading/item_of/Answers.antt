@@ -8,4 +8,4 @@ pub returns-in_err-demand : goal.returns-in_err-demand
 returns-in_err-demand c =
     let name = c.in_ok-name.ensures in
     let values = c.in_ok-values.ensures in
-    ap entry_seen (stopped c.from_residual-in_err-demand.result c.from_residual-in_err-demand.ensures.1) ∙ sym (item_demand c.args.field-count (names_in c.args.items.now) c.args.fields _ _ _ _ _ _ c.requires.0 name.moved values.moved c.in_ok-expect.ensures name.value values.value c.in_err-demand.ensures.value)
+    ap entry_seen (stopped c.from_residual-in_err-demand.result c.from_residual-in_err-demand.ensures.1) ∙ sym (item_demand c.args.field_count (names_in c.args.items.now) c.args.fields _ _ _ _ _ _ c.requires.0 name.moved values.moved c.in_ok-expect.ensures name.value values.value c.in_err-demand.ensures.value)
