@@ -1,5 +1,5 @@
 -- What a call that writes cells, records or the state leaves.
-use Rattle.std.proofs.Common.{◌≡◌, ℕ, suc, ◌*◌, ◌<◌, ◌≤◌, List, ◌++◌, length, take, drop, set, Some, sym, refl, ap, ◌∙◌, subst, ⊎_elim, arith, length-set, Bor}
+use Rattle.std.proofs.Common.{◌≡◌, ℕ, suc, ◌*◌, ◌<◌, ◌≤◌, List, ◌++◌, length, take, drop, set, Some, sym, refl, ap, ◌∙◌, subst, ⊎_elim, arith, length-set, MutBor}
 use lib.ListN.{length-replicate}
 use Rattle.std.proofs.lemmas.List.{get_or_past, get_or-set_other, get_or-replicate, take_at, drop_at, set-append_left, take-append-drop, length-append}
 use Rattle.std.proofs.lemmas.Bool.{cases_lt, true≢false}
@@ -37,7 +37,7 @@ pub record Holds (b : Core) (f : List ℕ) : Type 0 where
 pub holds_now : (b : Core) → Loaded b → Holds b (flow_of b)
 holds_now b l = record { arcs = on_arcs b l; limited = l.limited }
 
-module _ (b : Core) (r : Bor (List ℕ)) (t : List ItemRecord) (s : State) where
+module _ (b : Core) (r : MutBor (List ℕ)) (t : List ItemRecord) (s : State) where
   abbrev pub after : Core
   after = record { rows = b.rows; cells = r; items = t; count = b.count; state = s }
 

@@ -3,4 +3,4 @@ use Rattle.lp.proofs.Bounds.{graphs_read_back}
 use Rattle.job.proofs.job.Job.model_text.Goals as goal
 
 pub returns : goal.returns
-returns c = record { step = c.model-text.ensures.step; past = c.model-text.ensures.past; exact = models_exactly; legible = graphs_read_back }
+returns c = record { step = c.model_text.ensures.step; past = c.model_text.ensures.past; exact = models_exactly; legible = graphs_read_back }

@@ -10,13 +10,13 @@ use Rattle.job.proofs.state.Core.arc_flow.Goals as goal
 pub bounds-self-arc : goal.bounds-self-arc
 bounds-self-arc c =
     let b = c.args.self.now in
-    let l = (kept b c.requires).loaded c.in-default.not-Empty in
+    let l = (kept b c.requires).loaded c.in_default.not-Empty in
     omega (arith, l.room, arc_within (graph_of b) c.args.arc c.in-Some.field-0 (sym c.in-Some.ensures))
 
 pub returns : goal.returns
 returns c =
     let b = c.args.self.now in
-    let l = (kept b c.requires).loaded c.in-default.not-Empty in
+    let l = (kept b c.requires).loaded c.in_default.not-Empty in
     let e = sym c.in-Some.ensures in
-    asks b (flow_of c.args.arc) _ c.in-default.not-Empty
+    asks b (flow_of c.args.arc) _ c.in_default.not-Empty
     (cond-true _ _ _ (ap is_some e) ∙ ap (λ x. told (Amount x)) (cell_is b l c.args.arc (arc_within (graph_of b) c.args.arc c.in-Some.field-0 e)))

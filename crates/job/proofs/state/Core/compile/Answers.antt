@@ -6,22 +6,22 @@ use Rattle.job.proofs.Facts.{kept}
 use Rattle.job.proofs.Compiling.{too_many, compiles}
 use Rattle.job.proofs.state.Core.compile.Goals as goal
 
-pub returns-in-default : goal.returns-in-default
-returns-in-default g c =
+pub returns-in_default : goal.returns-in_default
+returns-in_default g c =
     let b = c.args.self.now in
     let k = g.K.Kind.meaning c.args.kind.now in
     let its = c.args.items.now in
     let xs = c.args.loads.now in
-    let fine = passed (flaw k (orders_of its)) c.in-ok-check-items.ensures in
-    let told = c.in-default.ensures in
+    let fine = passed (flaw k (orders_of its)) c.in_ok-check_items.ensures in
+    let told = c.in_default.ensures in
     too_many g.K.Kind.amount k its b xs fine c.size.result c.min-room.result c.size.ensures c.min-room.ensures (kept b c.requires) c.compile.new.rows told.room told.memory
     (c.compile.new.memory ++ drop c.min-room.result xs) told.compiles
 
-pub set-items-requires : goal.set-items-requires
-set-items-requires g c =
+pub set_items-requires : goal.set_items-requires
+set_items-requires g c =
     let k = g.K.Kind.meaning c.args.kind.now in
     let its = c.args.items.now in
-    record { table = (kept c.args.self.now c.requires).table; few = few_items k its (passed (flaw k (orders_of its)) c.in-ok-check-items.ensures) }
+    record { table = (kept c.args.self.now c.requires).table; few = few_items k its (passed (flaw k (orders_of its)) c.in_ok-check_items.ensures) }
 
 pub returns : goal.returns
 returns g c =
@@ -29,7 +29,7 @@ returns g c =
     let k = g.K.Kind.meaning c.args.kind.now in
     let its = c.args.items.now in
     let xs = c.args.loads.now in
-    let fine = passed (flaw k (orders_of its)) c.in-ok-check-items.ensures in
+    let fine = passed (flaw k (orders_of its)) c.in_ok-check_items.ensures in
     let told = c.in-Some.ensures in
     compiles g.K.Kind.amount k its b xs fine c.size.result c.min-room.result c.size.ensures c.min-room.ensures (kept b c.requires) c.compile.new.rows told.room told.memory
-    c.compile.new.memory c.in-Some.nodes told.compiles c.compile.auto.memory _ c.wipe.ensures refl c.set-items.new.self c.set-items.ensures
+    c.compile.new.memory c.in-Some.nodes told.compiles c.compile.auto.memory _ c.wipe.ensures refl c.set_items.new.self c.set_items.ensures

@@ -5,8 +5,8 @@ use Rattle.job.specs.View.{graph_of}
 use Rattle.job.proofs.Facts.{fits, shape}
 use Rattle.job.proofs.state.Core.first_unbalanced.Goals as goal
 
-pub first-unbalanced-requires : goal.first-unbalanced-requires
-first-unbalanced-requires c =
+pub first_unbalanced-requires : goal.first_unbalanced-requires
+first_unbalanced-requires c =
     let b = c.args.self.now in
     record {
       fits = subst (λ n. Fits (graph_of b) (take (2 * n) b.cells.now)) (sym c.len-arcs.ensures) (fits b c.requires);

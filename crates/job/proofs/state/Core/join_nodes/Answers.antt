@@ -21,7 +21,7 @@ returns c =
     record {
       graph = n.entries;
       count = n.nodes;
-      cells = (λ i. record { ref_ptr = taken.ptr; ghost_name = taken.name; now = n.cells i }) ∙ c.take-cells.ensures.value;
+      cells = (λ i. record { ref_ptr = taken.ref_ptr; ghost_name = taken.ghost_name; now = n.cells i }) ∙ c.take-cells.ensures.value;
       items = refl;
       item_count = refl;
       state = refl;

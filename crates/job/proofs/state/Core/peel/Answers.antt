@@ -20,8 +20,8 @@ returns-then-counts-count c =
     let some : 0 < value (flow_of b) = omega (arith, c.value.ensures, c.if-value-eq0.false) in
     record { step = refuses b _ _ c.requires (no_room b (kept b c.requires) c.in-Accepted.is some _ c.if-counts-count.true); rest = refl; refused = λ _. refl }
 
-pub spell-next-times-requires : goal.spell-next-times-requires
-spell-next-times-requires c =
+pub spell_next-times-requires : goal.spell_next-times-requires
+spell_next-times-requires c =
     let b = c.args.self.now in
     let k = kept b c.requires in
     let some : 0 < value (flow_of b) = omega (arith, c.value.ensures, c.if-value-eq0.false) in
@@ -30,25 +30,25 @@ spell-next-times-requires c =
       flowing = subst (λ m. Flowing m (graph_of b) (flow_of b)) (sym (length-take-le b.count c.args.counts.now c.if-counts-count.false)) (flowing b k c.in-Accepted.is some);
     }
 
-pub take-off-requires : goal.take-off-requires
-take-off-requires c =
+pub take_off-requires : goal.take_off-requires
+take_off-requires c =
     let b = c.args.self.now in
     let k = kept b c.requires in
     let some : 0 < value (flow_of b) = omega (arith, c.value.ensures, c.if-value-eq0.false) in
-    record { loaded = loaded b k c.in-Accepted.is some; ready = ready b k c.in-Accepted.is some c.spell-next-times.result c.spell-next-times.ensures.times }
+    record { loaded = loaded b k c.in-Accepted.is some; ready = ready b k c.in-Accepted.is some c.spell_next-times.result c.spell_next-times.ensures.times }
 
 pub book-requires : goal.book-requires
 book-requires c =
     let b = c.args.self.now in
     let k = kept b c.requires in
     let some : 0 < value (flow_of b) = omega (arith, c.value.ensures, c.if-value-eq0.false) in
-    let t = c.spell-next-times.result in
-    let counts = c.spell-next-times.new.counts ++ drop b.count c.args.counts.now in
+    let t = c.spell_next-times.result in
+    let counts = c.spell_next-times.new.counts ++ drop b.count c.args.counts.now in
     record {
-      few = few b k c.in-Accepted.is some t c.spell-next-times.ensures.times c.take-off.new.self c.take-off.ensures counts _ _ c.spell-next-times.ensures.counts refl;
-      table = table b k c.in-Accepted.is some t c.spell-next-times.ensures.times c.take-off.new.self c.take-off.ensures counts _ _ c.spell-next-times.ensures.counts refl;
-      room = room b k c.in-Accepted.is some t c.spell-next-times.ensures.times c.take-off.new.self c.take-off.ensures counts _ _ c.spell-next-times.ensures.counts refl;
-      enough = enough b k c.in-Accepted.is some t c.spell-next-times.ensures.times c.take-off.new.self c.take-off.ensures counts _ _ c.spell-next-times.ensures.counts refl;
+      few = few b k c.in-Accepted.is some t c.spell_next-times.ensures.times c.take_off.new.self c.take_off.ensures counts _ _ c.spell_next-times.ensures.counts refl;
+      table = table b k c.in-Accepted.is some t c.spell_next-times.ensures.times c.take_off.new.self c.take_off.ensures counts _ _ c.spell_next-times.ensures.counts refl;
+      room = room b k c.in-Accepted.is some t c.spell_next-times.ensures.times c.take_off.new.self c.take_off.ensures counts _ _ c.spell_next-times.ensures.counts refl;
+      enough = enough b k c.in-Accepted.is some t c.spell_next-times.ensures.times c.take_off.new.self c.take_off.ensures counts _ _ c.spell_next-times.ensures.counts refl;
     }
 
 pub returns : goal.returns
@@ -56,14 +56,14 @@ returns c =
     let b = c.args.self.now in
     let k = kept b c.requires in
     let some : 0 < value (flow_of b) = omega (arith, c.value.ensures, c.if-value-eq0.false) in
-    let t = c.spell-next-times.result in
-    let told = c.spell-next-times.new.counts in
+    let t = c.spell_next-times.result in
+    let told = c.spell_next-times.new.counts in
     let past = drop b.count c.args.counts.now in
-    let long : length told ≡ b.count = ap length c.spell-next-times.ensures.counts ∙ spelled_long b k c.in-Accepted.is some in
+    let long : length told ≡ b.count = ap length c.spell_next-times.ensures.counts ∙ spelled_long b k c.in-Accepted.is some in
     record {
       step =
           subst (λ x. Follows b c.book.new.self (Peel (length c.args.counts.now)) (Done (packed x t))) (sym (take_at told past b.count long))
-          (peel_done b k c.in-Accepted.is some t c.spell-next-times.ensures.times c.take-off.new.self c.take-off.ensures (told ++ past) _ _ c.spell-next-times.ensures.counts refl c.book.new.self c.book.ensures _ c.if-counts-count.false);
+          (peel_done b k c.in-Accepted.is some t c.spell_next-times.ensures.times c.take_off.new.self c.take_off.ensures (told ++ past) _ _ c.spell_next-times.ensures.counts refl c.book.new.self c.book.ensures _ c.if-counts-count.false);
       rest = drop_at told past b.count long;
       refused = λ e. absurd (true≢false e);
     }

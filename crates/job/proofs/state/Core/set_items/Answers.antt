@@ -11,7 +11,7 @@ pub loop-i-preserved : goal.loop-i-preserved
 loop-i-preserved c =
     let its = c.args.items.now in
     let n = c.loop-i.i in
-    front_more c.args.self.now c.loop-i.self c.set-item.new.self (demands (orders_of its)) n _ c.loop-i.invariant c.set-item.ensures
+    front_more c.args.self.now c.loop-i.self c.set_item.new.self (demands (orders_of its)) n _ c.loop-i.invariant c.set_item.ensures
     (omega (arith, c.requires.table, c.requires.few, c.loop-i-test.true)) (omega (arith, number_of_demands its, c.loop-i-test.true)) (demand_at its n _ c.loop-i-test.true)
 
 pub returns : goal.returns

@@ -15,5 +15,5 @@ loop-place-preserved c =
     let b = c.args.self.now in
     let h = c.loop-place.invariant in
     let n = c.loop-place.place in
-    lefts_more b c.loop-place.self c.set-left.new.self n c.copies-left.result _ h c.set-left.ensures (omega (arith, c.requires.table, c.requires.loaded.few))
+    lefts_more b c.loop-place.self c.set_left.new.self n c.copies-left.result _ h c.set_left.ensures (omega (arith, c.requires.table, c.requires.loaded.few))
     (c.copies-left.ensures ∙ ap (λ f. copies_of (graph_of c.loop-place.self) f (n + 1)) (flow_same b c.loop-place.self n _ h) ∙ ap (λ g. copies_of g (flow_of b) (n + 1)) (graph_same b c.loop-place.self n _ h) ∙ ap (copies_of (graph_of b) (flow_of b)) (add-one n))
