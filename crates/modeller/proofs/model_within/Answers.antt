@@ -25,5 +25,5 @@ returns-in-Some-new c =
     let same : meant c.in-Some-new.kind.limits ≡ limits_meaning c.args.limits =
     ap meant limits_are ∙ ap (λ (ns : List ℕ). under_count count (numbers ns)) (sym (four_are four within_range.0))
     ∙ ap (λ (b : Base). under_count count (base_meaning b)) (sym c.in-Vector.is) in
-    subst (λ (k : Meaning). IfOk c.model-under-in-Some-new.result (λ v. vec_items v ≡ modelled k (orders_of c.args.items.now))) same
-    c.model-under-in-Some-new.ensures
+    subst (λ (k : Meaning). IfOk c.model_under-in-Some-new.result (λ v. vec_items v ≡ modelled k (orders_of c.args.items.now))) same
+    c.model_under-in-Some-new.ensures
