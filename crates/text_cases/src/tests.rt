@@ -1,13 +1,14 @@
 // Each table, and the texts that are built here.
 use crate::tables::*;
 use refusal::Numbers;
-use std::alloc::AllocError;
+use std::alloc::{AllocError, Global};
+use std::process::Abort;
 use std::test::*;
 use texts::{Base, Instance, Limits, ReadError, read_instance};
 
 // Each text gets its refusal, and leaves no items.
-fn check_refused(rt: HostRuntime, cases: &[Refused]) -> Result<(), Fail> {
-    let mut instance = Instance::new(rt.alloc())?;
+fn check_refused(rt: &impl Abort, alloc: Global, cases: &[Refused]) -> Result<(), Fail> {
+    let mut instance = Instance::new(alloc)?;
     for case in cases {
         let [number, layer, a, b] = case.1;
         let expected = Numbers {
@@ -17,48 +18,48 @@ fn check_refused(rt: HostRuntime, cases: &[Refused]) -> Result<(), Fail> {
             b,
         };
         match read_instance(case.0, &mut instance) {
-            Err(ReadError::Refused(refusal)) => assert_eq!(refusal.numbers(), expected),
-            _ => assert!(false),
+            Err(ReadError::Refused(refusal)) => assert_eq!(rt; refusal.numbers(), expected),
+            _ => assert!(rt; false),
         }
-        assert!(instance.items.is_empty());
+        assert!(rt; instance.items.is_empty());
     }
     Ok(())
 }
 
 #[test]
 fn bytes(rt: HostRuntime) -> Result<(), Fail> {
-    check_refused(rt, &BAD_BYTES)
+    check_refused(&rt, rt.alloc(), &BAD_BYTES)
 }
 
 #[test]
 fn numbers(rt: HostRuntime) -> Result<(), Fail> {
-    check_refused(rt, &NO_NUMBERS)
+    check_refused(&rt, rt.alloc(), &NO_NUMBERS)
 }
 
 #[test]
 fn field_counts(rt: HostRuntime) -> Result<(), Fail> {
-    check_refused(rt, &WRONG_FIELD_COUNTS)
+    check_refused(&rt, rt.alloc(), &WRONG_FIELD_COUNTS)
 }
 
 #[test]
 fn letters(rt: HostRuntime) -> Result<(), Fail> {
-    check_refused(rt, &UNKNOWN_LETTERS)
+    check_refused(&rt, rt.alloc(), &UNKNOWN_LETTERS)
 }
 
 #[test]
 fn ranges(rt: HostRuntime) -> Result<(), Fail> {
-    check_refused(rt, &OUT_OF_RANGE)
+    check_refused(&rt, rt.alloc(), &OUT_OF_RANGE)
 }
 
 #[test]
 fn names(rt: HostRuntime) -> Result<(), Fail> {
-    check_refused(rt, &BAD_NAMES)
+    check_refused(&rt, rt.alloc(), &BAD_NAMES)
 }
 
 #[test]
 fn ends(rt: HostRuntime) -> Result<(), Fail> {
-    check_refused(rt, &MALFORMED)?;
-    check_refused(rt, &WRONG_LINE_COUNTS)
+    check_refused(&rt, rt.alloc(), &MALFORMED)?;
+    check_refused(&rt, rt.alloc(), &WRONG_LINE_COUNTS)
 }
 
 // A text of line feeds only: its first line is empty, unless the text is too long.
@@ -66,9 +67,9 @@ fn ends(rt: HostRuntime) -> Result<(), Fail> {
 fn lengths(rt: HostRuntime) -> Result<(), Fail> {
     let mut text = Vec::with_capacity(rt.alloc(), 65_537)?;
     text.resize(65_536, b'\n')?;
-    check_refused(rt, &[(&text[..], [3, 2, 1, 0])])?;
+    check_refused(&rt, rt.alloc(), &[(&text[..], [3, 2, 1, 0])])?;
     text.push(b'\n')?;
-    check_refused(rt, &[(&text[..], [8, 3, 0, 0])])
+    check_refused(&rt, rt.alloc(), &[(&text[..], [8, 3, 0, 0])])
 }
 
 // Texts that are read, into a table that has no room at first.
@@ -106,5 +107,5 @@ fn sizes(rt: HostRuntime) -> Result<(), Fail> {
     let short = many(rt, 63)?;
     let long = many(rt, 65)?;
     let cases = [(&short[..], [9, 3, 67, 0]), (&long[..], [9, 3, 68, 0])];
-    check_refused(rt, &cases)
+    check_refused(&rt, rt.alloc(), &cases)
 }
