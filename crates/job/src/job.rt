@@ -92,7 +92,7 @@ impl<'a> Job<'a> {
     ) -> Result<usize, Refusal>
         ensures compiled { Compiles K.amount (K.meaning kind.now) (orders_of items.now) self.old.core self.new.core loads.old loads.new result }
         ensures spells { SpellsPatterns }
-        ensures numbered { (CompiledStepped) × (NumberingFixed) }
+        ensures numbered { CompiledStepped × NumberingFixed }
     {
         self.core.compile(kind, items, loads)
     }

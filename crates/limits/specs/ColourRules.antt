@@ -1,4 +1,4 @@
--- The rules hold for sets of colours.
+-- The rules hold for sets of colours. A law of an impl cites them, so they stand in specs/.
 use Rattle.std.specs.Prelude.{◌≡◌, ℕ, suc, ◌+◌, ◌<◌, ◌≤◌, Bool, true, false, cond, ◌&&◌, ◌≢◌, ◌⊎◌, List, [], ◌∷◌, length, IfSome, Some, None, ◌==◌, nat_le, nat_lt, refl}
 use Rattle.std.proofs.Common.{sym, ap, ◌∙◌, inl, inr, arith}
 use Rattle.std.proofs.Math.Dec.{leb-zero}

@@ -1,4 +1,4 @@
--- The rules hold for a count over a kind, if they hold for the kind.
+-- The rules hold for a count over a kind, if they hold for the kind. A law of an impl cites them, so they stand in specs/.
 use Rattle.std.specs.Prelude.{◌≡◌, ℕ, ◌+◌, ◌≤◌, Bool, true, false, ◌&&◌, ◌≢◌, List, [], ◌∷◌, length, IfSome, Some, None, Option, nat_le, refl}
 use Rattle.std.proofs.Common.{sym, ap, ◌∙◌, add_assoc, add_comm, zero-add, arith}
 use Rattle.std.proofs.Math.Dec.{leb-zero}

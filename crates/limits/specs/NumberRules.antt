@@ -1,4 +1,4 @@
--- The rules hold for amounts of one number for each limit.
+-- The rules hold for amounts of one number for each limit. A law of an impl cites them, so they stand in specs/.
 use Rattle.std.specs.Prelude.{◌≡◌, ℕ, ◌+◌, ◌≤◌, Bool, true, false, ◌&&◌, List, [], ◌∷◌, map, length, IfSome, None, ◌==◌, nat_le, refl}
 use Rattle.std.proofs.Common.{sym, ap, ◌∙◌, add_assoc, add_comm, zero-add, arith}
 use Rattle.std.proofs.Math.Dec.{leb-zero}
@@ -6,7 +6,7 @@ use Rattle.std.proofs.lemmas.List.{length-map}
 use Rattle.std.proofs.lemmas.Bool.{eqb-true, eq-eqb, ne_eqb, and_parts, and_from, leb-true, le-leb, both_ways}
 use Rattle.std.specs.Bool.{then_some}
 use Rattle.limits.specs.Meaning.{Rules}
-use Rattle.limits.specs.Numbers.{numbers, sums, within}
+use Rattle.limits.specs.Numbers.{numbers, sums, within, length_meaning, vector_meaning}
 
 sums_length : (a b : List ℕ) → length a ≡ length b → length (sums a b) ≡ length a
 sums_length [] b e = refl
@@ -70,3 +70,9 @@ numbers_rules limits low high = record {
   arity_low = low;
   arity_high = high;
 }
+
+pub length_rules : (w : ℕ) → Rules (length_meaning w)
+length_rules w = numbers_rules (w ∷ []) (omega arith) (omega arith)
+
+pub vector_rules : (w x y z : ℕ) → Rules (vector_meaning w x y z)
+vector_rules w x y z = numbers_rules (w ∷ (x ∷ (y ∷ (z ∷ [])))) (omega arith) (omega arith)
