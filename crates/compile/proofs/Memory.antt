@@ -7,7 +7,6 @@ use Rattle.lists.specs.declared.list.List.{List as Grown}
 use Rattle.lists.specs.Entries.{entries, spare}
 use Rattle.graph.specs.declared.Row.{Row}
 use Rattle.packing.specs.Packing.{Item}
-use Rattle.graph.specs.Compiled.{loads}
 use Rattle.graph.proofs.Laws.{compiles_layered}
 use Rattle.compile.specs.Growth.{capacity, GrewBoth}
 use Rattle.compile.specs.Build.{Built}

@@ -7,7 +7,6 @@ use Rattle.std.proofs.ByRecursion.{All-more}
 use Rattle.std.proofs.lemmas.Bool.{false≢true, and_parts, or_parts, eqb-true, eqb-false, ltb-false}
 use Rattle.limits.specs.Meaning.{Meaning}
 use Rattle.packing.specs.declared.Item.{Item as Given}
-use Rattle.packing.specs.Packing.{Item}
 use Rattle.packing.specs.Problem.{Order, fits_alone, fair, unfair, flaw, weight_of, item_of}
 use Rattle.packing.specs.Given.{fields_of, order_of, orders_of}
 use Rattle.packing.proofs.Options.{some≢none}

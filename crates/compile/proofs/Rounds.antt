@@ -1,5 +1,5 @@
 -- The loop over the copies of one item, at its lists.
-use Rattle.std.proofs.Common.{◌≡◌, ℕ, ◌+◌, ◌-◌, ◌<◌, ◌≤◌, List, [], map, length, drop, Some, None, sym, refl, ◌∙◌, subst, arith}
+use Rattle.std.proofs.Common.{◌≡◌, ℕ, ◌+◌, ◌-◌, ◌<◌, ◌≤◌, List, map, length, drop, Some, None, sym, refl, ◌∙◌, subst, arith}
 use lib.ListN.{length-map}
 use Rattle.limits.specs.Meaning.{Meaning, joined}
 use Rattle.lists.specs.declared.list.List.{List as Grown}

@@ -1,5 +1,5 @@
 -- The whole graph.
-use Rattle.std.specs.Prelude.{◌≡◌, ℕ, suc, ◌+◌, ◌≤◌, List, [], ◌++◌, map, length, take, drop, Some, None, Option}
+use Rattle.std.specs.Prelude.{◌≡◌, ℕ, suc, ◌+◌, ◌≤◌, List, ◌++◌, map, length, take, drop, Some, None, Option}
 use Rattle.limits.specs.Meaning.{Meaning}
 use Rattle.lists.specs.declared.list.List.{List as Grown}
 use Rattle.lists.specs.Entries.{entries}

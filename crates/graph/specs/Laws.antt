@@ -1,11 +1,9 @@
 -- What the graphs are for: the theorems about patterns and about compiled and reduced graphs.
-use Rattle.std.specs.Prelude.{◌≡◌, ℕ, suc, ◌<◌, ◌≤◌, true, false, cond, ◌⊎◌, List, ◌∷◌, ◌++◌, length, Some, None, ◌≢◌}
+use Rattle.std.specs.Prelude.{◌≡◌, ℕ, suc, ◌<◌, true, List, length, Some, ◌≢◌}
 use Rattle.graph.specs.declared.Row.{Row}
-use Rattle.packing.specs.Distinct.{occurrences, same_list}
-use Rattle.std.specs.List.{AllByRecursion as All}
-use Rattle.limits.specs.Meaning.{Meaning, Rules}
-use Rattle.packing.specs.Packing.{Item, pattern, patterns, Packable}
-use Rattle.packing.specs.Problem.{Order, fair, flaw, items}
+use Rattle.limits.specs.Meaning.{Meaning}
+use Rattle.packing.specs.Packing.{Item, pattern, Packable}
+use Rattle.packing.specs.Problem.{items}
 use Rattle.graph.specs.Graph.{at, Path, Layered, walk, spelled}
 use Rattle.graph.specs.Compiled.{compiled, loads}
 use Rattle.graph.specs.Reduced.{led, reduced}

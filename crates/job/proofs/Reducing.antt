@@ -1,25 +1,25 @@
 -- A job whose nodes were joined.
-use Rattle.std.proofs.Common.{◌≡◌, ℕ, ◌+◌, ◌*◌, ◌/◌, ◌<◌, ◌≤◌, min, true, false, ltb, List, ◌++◌, length, get_or, take, replicate, None, Ok, sym, refl, ap, ◌∙◌, subst, ap₂, arith, length-append}
+use Rattle.std.proofs.Common.{◌≡◌, ℕ, ◌/◌, ◌<◌, ◌≤◌, min, ltb, List, length, get_or, take, replicate, None, Ok, sym, ap, ◌∙◌, subst, ap₂, arith, length-append}
 use lib.ListN.{length-replicate}
 use Rattle.std.proofs.lemmas.List.{ext_get_or, get_or-take, get_or-replicate, length-take-le}
 use Rattle.std.proofs.lemmas.Bool.{ltb-false, true≢false}
 use Rattle.refusal.specs.declared.Refusal.TheVariants.{CarriesFlow}
-use Rattle.lists.specs.Entries.{entries, spare}
+use Rattle.lists.specs.Entries.{spare}
 use Rattle.graph.specs.declared.Row.{Row}
 use Rattle.graph.specs.Graph.{Layered}
 use Rattle.graph.specs.Reduced.{reduced}
 use Rattle.graph.proofs.Reduce.{reduced_layered}
 use Rattle.reduce.proofs.Writes.{reduced_le}
 use Rattle.flow.specs.Flow.{on}
-use Rattle.flow.specs.Job.{Content, View, View.Open, Call.Reduce, Outcome, Answer.Done, Reply.Nodes, fresh, loaded, no_flow, refuse_at, step}
+use Rattle.flow.specs.Job.{View.Open, Call.Reduce, Answer.Done, Reply.Nodes, fresh, loaded, no_flow, refuse_at, step}
 use Rattle.flow.specs.Scans.{demands_of}
 use Rattle.flow.proofs.Accept.{lowest_none}
 use Rattle.job.specs.declared.state.State.TheVariants
 use Rattle.job.specs.declared.state.Core.{Core}
 use Rattle.job.specs.View.{graph_of, arcs_of, flow_of, demanded, content, size, shown, view}
 use Rattle.job.specs.Sound.{Loaded, Kept}
-use Rattle.job.specs.Building.{Joined, ReducedSo, row_memory}
-use Rattle.job.proofs.Facts.{cell_is, open_loaded}
+use Rattle.job.specs.Building.{Joined, ReducedSo}
+use Rattle.job.proofs.Facts.{open_loaded}
 use Rattle.job.proofs.Follow.{kept_fresh, view_fresh}
 
 -- where no arc carries flow, the cells of the arcs are 0

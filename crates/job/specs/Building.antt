@@ -8,7 +8,7 @@ use Rattle.lists.specs.Entries.{entries, spare, SameMemory}
 use Rattle.graph.specs.declared.Row.{Row}
 use Rattle.graph.specs.Compiled.{loads}
 use Rattle.graph.specs.Reduced.{reduced}
-use Rattle.flow.specs.Job.{Answer, Call, Call.Compile, Call.Reduce, Fact.Text, Reply, Reply.Nodes, Reply.Told, step}
+use Rattle.flow.specs.Job.{Call.Compile, Call.Reduce, Fact.Text, Reply, Reply.Nodes, Reply.Told, step}
 use Rattle.flow.specs.Law.{done}
 use Rattle.job.specs.declared.state.Core.{Core}
 use Rattle.job.specs.View.{graph_of, size, view, answered}

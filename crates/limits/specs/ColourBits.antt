@@ -1,5 +1,5 @@
 -- The bits of a word as a set of colours. A law of an impl cites them, so they stand in specs/.
-use Rattle.std.specs.Prelude.{◌≡◌, ℕ, zero, suc, ◌+◌, ◌*◌, ◌/◌, ◌%◌, ◌^◌, ◌<◌, ◌≤◌, max, Bool, true, false, cond, ◌⊎◌, List, [], ◌∷◌, length, Some, ◌==◌, ◌≢◌, bit_or, slice_index, refl}
+use Rattle.std.specs.Prelude.{◌≡◌, ℕ, zero, suc, ◌+◌, ◌*◌, ◌/◌, ◌%◌, ◌^◌, ◌<◌, ◌≤◌, max, true, ◌⊎◌, List, [], ◌∷◌, length, Some, ◌==◌, ◌≢◌, bit_or, slice_index, refl}
 use Rattle.std.proofs.Common.{sym, ap, ap₂, subst, ◌∙◌, inl, inr, arith, pow-suc}
 use Rattle.std.specs.Int.Bits.{or_step}
 use Rattle.std.specs.Int.Count.{ones, ones_step}

@@ -1,6 +1,6 @@
 -- The rules hold for a count over a kind, if they hold for the kind. A law of an impl cites them, so they stand in specs/.
-use Rattle.std.specs.Prelude.{◌≡◌, ℕ, ◌+◌, ◌≤◌, Bool, true, false, ◌&&◌, ◌≢◌, List, [], ◌∷◌, length, IfSome, Some, None, Option, nat_le, refl}
-use Rattle.std.proofs.Common.{sym, ap, ◌∙◌, add_assoc, add_comm, zero-add, arith}
+use Rattle.std.specs.Prelude.{◌≡◌, ℕ, ◌+◌, ◌≤◌, true, false, List, [], ◌∷◌, IfSome, Some, None, Option, nat_le, refl}
+use Rattle.std.proofs.Common.{ap, add_assoc, add_comm, zero-add, arith}
 use Rattle.std.proofs.Math.Dec.{leb-zero}
 use Rattle.std.proofs.lemmas.Bool.{and_parts, and_from, leb-true, le-leb, both_ways}
 use Rattle.std.specs.Option.{option_map}

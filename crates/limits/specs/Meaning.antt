@@ -1,6 +1,6 @@
 -- What a kind of limit means, as plain mathematics: which lists of numbers are amounts, how they add up, which of them fit,
 -- and what a list of fields weighs.
-use Rattle.std.specs.Prelude.{◌≡◌, ℕ, ◌≤◌, Bool, true, ◌≢◌, List, [], ◌∷◌, length, IfSome, None, Option}
+use Rattle.std.specs.Prelude.{◌≡◌, ℕ, ◌≤◌, Bool, true, ◌≢◌, List, length, IfSome, None, Option}
 use Rattle.std.specs.Bool.{then_some}
 
 -- What a kind of limit means.

@@ -1,6 +1,6 @@
 -- The rules hold for amounts of one number for each limit. A law of an impl cites them, so they stand in specs/.
-use Rattle.std.specs.Prelude.{◌≡◌, ℕ, ◌+◌, ◌≤◌, Bool, true, false, ◌&&◌, List, [], ◌∷◌, map, length, IfSome, None, ◌==◌, nat_le, refl}
-use Rattle.std.proofs.Common.{sym, ap, ◌∙◌, add_assoc, add_comm, zero-add, arith}
+use Rattle.std.specs.Prelude.{◌≡◌, ℕ, ◌+◌, ◌≤◌, Bool, true, false, List, [], ◌∷◌, map, length, IfSome, None, ◌==◌, nat_le, refl}
+use Rattle.std.proofs.Common.{sym, ◌∙◌, add_assoc, add_comm, zero-add, arith}
 use Rattle.std.proofs.Math.Dec.{leb-zero}
 use Rattle.std.proofs.lemmas.List.{length-map}
 use Rattle.std.proofs.lemmas.Bool.{eqb-true, eq-eqb, ne_eqb, and_parts, and_from, leb-true, le-leb, both_ways}

@@ -1,14 +1,11 @@
 -- An item line, field by field, and names that are known.
-use Rattle.std.proofs.Common.{◌≡◌, ℕ, suc, ◌+◌, ◌-◌, ◌<◌, ◌≤◌, Bool, true, false, ◌||◌, List, [], ◌∷◌, ◌++◌, map, length, get_or, drop, Ok, Err, Decides, sym, refl, ap, ◌∙◌, arith}
-use Rattle.std.specs.Str.{bytes_eq}
-use Rattle.std.proofs.lemmas.Slice.Eq.{slice_eq-Decides, bytes_eq-Decides}
-use Rattle.std.proofs.lemmas.List.{drop_more, drop_all, map_push}
-use Rattle.std.proofs.lemmas.Bool.Decides.{same_from_decides, Decides-eqb}
+use Rattle.std.proofs.Common.{◌≡◌, ℕ, suc, ◌+◌, ◌-◌, ◌<◌, ◌≤◌, List, [], ◌∷◌, ◌++◌, drop, Ok, Err, sym, refl, ap, ◌∙◌, arith}
+use Rattle.std.proofs.lemmas.List.{map_push}
 use Rattle.texts.specs.declared.fields.Fields.{Fields}
 use Rattle.refusal.specs.declared.Refusal.{Refusal}
 use Rattle.packing.specs.declared.Item.{Item}
 use Rattle.texts.specs.Entries.{entry_of, entries_in, names_in}
-use Rattle.texts.specs.Grammar.{Read, Entry, and_then, shape, name_at, numbers_at, number_at, item_of, item_at, items_at, names_of, known}
+use Rattle.texts.specs.Grammar.{Read, Entry, and_then, shape, name_at, numbers_at, number_at, item_of, item_at, items_at, names_of}
 use Rattle.texts.specs.Parts.{words_left, Moved}
 
 -- what is left of an item line after its name and its fields

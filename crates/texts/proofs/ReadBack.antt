@@ -1,18 +1,17 @@
 -- A valid instance is read back from its text.
-use Rattle.std.proofs.Common.{◌≡◌, ℕ, zero, suc, ◌+◌, ◌-◌, ◌*◌, ◌<◌, ◌≤◌, Bool, true, false, cond, not, ◌&&◌, ◌||◌, eqb, leb, List, [], ◌∷◌, ◌++◌, map, length, get_or, drop, Some, None, Ok, Err, codes, decimal, Option, sym, refl, ap, ◌∙◌, subst, ⊎_elim, append_assoc, append-nil, arith, length-append}
+use Rattle.std.proofs.Common.{◌≡◌, ℕ, ◌+◌, ◌≤◌, true, false, List, [], ◌∷◌, ◌++◌, map, length, drop, Ok, codes, decimal, sym, refl, ap, ◌∙◌, subst, ⊎_elim, append_assoc, append-nil, arith, length-append}
 use lib.ListN.{length-map}
 use lib.Seq.{drop-append_seam}
 use Rattle.std.specs.List.{AllByRecursion as All}
 use Rattle.std.specs.Str.{bytes_eq}
-use Rattle.std.specs.Char.{is_ascii_digit}
 use Rattle.std.proofs.ByRecursion.{All-append, All-map, All-weaker}
 use Rattle.std.proofs.lemmas.Slice.Eq.{bytes_eq-Decides}
 use Rattle.std.proofs.lemmas.Bool.{and_from, or_from, le-leb, cases_Bool, not_from_false, cond-true}
 use Rattle.texts.specs.declared.instance.Base.{Base}
 use Rattle.texts.specs.declared.instance.Base.TheVariants.{Length, Vector, Colours}
 use Rattle.texts.specs.Split.{words}
-use Rattle.texts.specs.Grammar.{Read, Entry, and_then, just, shape, number_in, number_at, numbers_at, sole_number, four_numbers, printable, line_at, base_of, count_limit_of, known, good_name, name_at, field_count_of, item_of, item_at, items_at, names_of}
-use Rattle.texts.specs.Valid.{Within, Name, Item, Limit, CountLimit, Distinct, OnLines}
+use Rattle.texts.specs.Grammar.{Read, Entry, and_then, just, shape, number_in, number_at, numbers_at, sole_number, four_numbers, line_at, base_of, count_limit_of, known, name_at, item_of, item_at, items_at, names_of}
+use Rattle.texts.specs.Valid.{Within, Name, Item, Limit, Distinct, OnLines}
 use Rattle.texts.specs.Written.{spaced, base_words, item_words}
 use Rattle.texts.proofs.Written.{Clean, words_spaced, spaced_line, line_printable, decimal_form, decimal_clean}
 

@@ -1,14 +1,14 @@
 -- Lines and words of a written text.
-use Rattle.std.proofs.Common.{◌≡◌, ℕ, zero, suc, ◌+◌, ◌-◌, ◌*◌, ◌^◌, ◌<◌, ◌≤◌, Bool, true, false, cond, not, ◌&&◌, eqb, leb, List, [], ◌∷◌, ◌++◌, map, length, get_or, drop, Some, decimal, sym, refl, ap, ◌∙◌, subst, arith, length-append, rules}
+use Rattle.std.proofs.Common.{◌≡◌, ℕ, zero, suc, ◌<◌, ◌≤◌, true, false, eqb, leb, List, [], ◌∷◌, ◌++◌, map, length, get_or, Some, decimal, refl, ap, ◌∙◌, arith, rules}
 use Rattle.std.specs.Char.{is_ascii_digit, is_ascii_alphabetic}
 use Rattle.std.specs.List.{AllByRecursion as All}
 use Rattle.std.proofs.lemmas.Fmt.{decimal_digit, digits_decimal, digits_value-decimal, first_decimal, length-decimal-le, decimal_nonempty}
 use Rattle.std.proofs.lemmas.Str.Parse.{IsNumeralModel, numerals_by_fold}
-use Rattle.std.proofs.lemmas.Bool.{and_parts, and_from, le-leb, lt-leb, ne_eqb, eq-eqb, leb-true, not_from_false, both_ways, cond-true, cond-false}
+use Rattle.std.proofs.lemmas.Bool.{and_parts, and_from, le-leb, ne_eqb, leb-true, not_from_false, both_ways, cond-true, cond-false}
 use Rattle.std.proofs.lemmas.Bool.Decides.{nat_tests}
 use Rattle.texts.specs.Split.{onto, lines, words}
-use Rattle.texts.specs.Words.{Form, word, number, letter, form, numeric, number_of, all_digits, value, no_leading_zero, number_from}
-use Rattle.texts.specs.Grammar.{prints_of, printable}
+use Rattle.texts.specs.Words.{number, form, numeric, number_of, all_digits, value, no_leading_zero, number_from}
+use Rattle.texts.specs.Grammar.{printable}
 use Rattle.texts.specs.Valid.{Within}
 use Rattle.texts.specs.Written.{spaced, text_of}
 

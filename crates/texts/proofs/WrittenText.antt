@@ -1,5 +1,5 @@
 -- The text of a valid instance as a whole: it is well formed, and its sections are read back.
-use Rattle.std.proofs.Common.{◌≡◌, ℕ, suc, ◌+◌, ◌-◌, ◌*◌, ◌≤◌, true, List, [], ◌∷◌, ◌++◌, map, length, get_or, drop, Some, None, Ok, codes, decimal, Option, sym, refl, ap, ◌∙◌, subst, arith, length-append, get_or-append-add}
+use Rattle.std.proofs.Common.{◌≡◌, ℕ, suc, ◌+◌, ◌-◌, ◌*◌, ◌≤◌, List, [], ◌∷◌, ◌++◌, map, length, get_or, drop, Some, None, Ok, codes, decimal, Option, refl, ap, ◌∙◌, arith, length-append, get_or-append-add}
 use lib.ListN.{length-map}
 use lib.Seq.{get_or-append_seam}
 use Rattle.std.specs.List.{AllByRecursion as All}
@@ -9,9 +9,9 @@ use Rattle.std.proofs.lemmas.Bool.{and_from, le-leb, eq-eqb, cond-true}
 use Rattle.texts.specs.declared.instance.Base.{Base}
 use Rattle.texts.specs.declared.instance.Base.TheVariants.{Length, Vector, Colours}
 use Rattle.texts.specs.Split.{lines}
-use Rattle.texts.specs.Grammar.{Read, Entry, Spelled, and_then, sole_number, count_at, base_of, base_at, count_limit_of, second_at, end_at, field_count_of, items_at, names_of, section, text_end, item_lines, items_section, second_line, limit_lines, sections, well_formed, formed, reads}
+use Rattle.texts.specs.Grammar.{Read, Entry, and_then, sole_number, count_at, base_of, base_at, count_limit_of, second_at, end_at, field_count_of, items_at, names_of, section, text_end, item_lines, items_section, second_line, limit_lines, sections, formed, reads}
 use Rattle.texts.specs.Valid.{Within, Item, Limit, CountLimit, first_item, OnLines, Distinct, Valid}
-use Rattle.texts.specs.Written.{spaced, text_of, base_words, limit_lines_of, item_words, counted, lines_of, written, ReadsWritten}
+use Rattle.texts.specs.Written.{spaced, text_of, base_words, item_words, counted, lines_of, written, ReadsWritten}
 use Rattle.texts.proofs.Written.{Clean, lines_text, decimal_clean}
 use Rattle.texts.proofs.ReadBack.{sole_back, decimals_clean, line_back, base_back, count_limit_back, item_clean, item_size, items_back}
 

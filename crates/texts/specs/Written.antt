@@ -2,7 +2,6 @@
 use Rattle.std.specs.Prelude.{◌≡◌, ℕ, List, [], ◌∷◌, ◌++◌, map, length, Some, None, Ok, codes, decimal, Option}
 use Rattle.texts.specs.declared.instance.Base.{Base}
 use Rattle.texts.specs.declared.instance.Base.TheVariants.{Length, Vector, Colours}
-use Rattle.texts.specs.declared.instance.Limits.{Limits}
 use Rattle.texts.specs.Grammar.{Entry, Spelled, reads}
 use Rattle.texts.specs.Valid.{Valid}
 

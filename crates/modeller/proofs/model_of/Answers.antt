@@ -1,4 +1,4 @@
-use Rattle.std.proofs.Common.{◌≡◌, List, vec_items, sym, ap, ◌∙◌}
+use Rattle.std.proofs.Common.{List, vec_items, sym, ap, ◌∙◌}
 use Rattle.std.proofs.lemmas.Result.{IfOk-weaker}
 use Rattle.packing.specs.declared.Item.{Item}
 use Rattle.packing.specs.Given.{orders_of}

@@ -1,4 +1,4 @@
-use Rattle.std.proofs.Common.{◌≡◌, ℕ, List, length, get_or, IfOk, vec_items, sym, ap, ◌∙◌, subst}
+use Rattle.std.proofs.Common.{◌≡◌, ℕ, List, get_or, IfOk, vec_items, sym, ap, ◌∙◌, subst}
 use Rattle.limits.specs.declared.vector.Four.{Four}
 use Rattle.limits.specs.Meaning.{Meaning}
 use Rattle.limits.specs.Numbers.{numbers, vector_meaning}

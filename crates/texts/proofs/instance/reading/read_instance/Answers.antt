@@ -1,4 +1,3 @@
-use Rattle.std.proofs.Common.{◌≡◌}
 use Rattle.texts.proofs.Valid.{reads_valid}
 use Rattle.texts.proofs.instance.reading.read_instance.Goals as goal
 

@@ -1,4 +1,4 @@
-use Rattle.std.proofs.Common.{◌≡◌, ◌+◌, [], Ok, vec_items, sym, ap, ◌∙◌}
+use Rattle.std.proofs.Common.{◌≡◌, ◌+◌, [], vec_items, sym, ap, ◌∙◌}
 use Rattle.texts.specs.Entries.{entries_in}
 use Rattle.texts.specs.Grammar.{count_at, items_at, field_count_of, items_section, item_lines, text_end}
 use Rattle.texts.specs.Readers.{lines_left, reading}
