@@ -22,6 +22,9 @@ MEETS = set(
     reads_valid reads_written row_memory sole_number take_arc""".split()
 )
 
+# A lemma that stands as a parameter of a module.
+PARAMETERS = {"Took-one": "took_one"}
+
 
 def sources(top):
     for folder, dirs, names in os.walk(os.path.join(top, "crates")):
@@ -83,11 +86,11 @@ def main():
                 declared.add(m.group(1))
         declared |= set(LET.findall(bare))
     table = {n: respelled(n) for n in declared if ("-" in n or re.match(r"[a-z]+[A-Z]", n)) and n not in library}
-    table = {a: b for a, b in table.items() if a != b}
     words = {}
     for p, t in texts.items():
         for m in TOKEN.finditer("".join(part for part, code in pieces(p, t) if code)):
             words.setdefault(m.group(), set()).add(p)
+    table = {a: b for a, b in (table | PARAMETERS).items() if a != b and a in words}
     clash = [(a, b, sorted(words[b])[:3]) for a, b in sorted(table.items()) if b in words]
     clash = [c for c in clash if c[1] not in MEETS]
     if len(set(table.values())) < len(table) or clash:

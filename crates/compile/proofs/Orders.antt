@@ -1,7 +1,7 @@
 -- Items with which nothing is wrong, one by one.
 use Rattle.std.proofs.Common.{◌≡◌, ℕ, zero, suc, ◌+◌, ◌<◌, ◌≤◌, Bool, true, false, cond, ◌&&◌, ◌||◌, eqb, ltb, leb, ◌⊎◌, List, [], ◌∷◌, ◌++◌, length, get_or, take, drop, Some, None, Ok, Option, sym, refl, ap, ◌∙◌, subst, inl, inr, arith, take-append-drop}
 use lib.ListN.{length-map}
-use Rattle.std.specs.List.{AllByRecursion as All}
+use Rattle.std.specs.List.{AllByRecursion}
 use Rattle.std.proofs.lemmas.List.{get_or-map, drop_more, take_all, length-take-le}
 use Rattle.std.proofs.ByRecursion.{All-more}
 use Rattle.std.proofs.lemmas.Bool.{false≢true, and_parts, or_parts, eqb-true, eqb-false, ltb-false}
@@ -46,7 +46,7 @@ module _ (k : Meaning) (its : List Given) where
 
   -- the first i items are fair
   abbrev pub FairFront : ℕ → Type 0
-  FairFront i = All (λ x. fair k x ≡ true) (take i (orders_of its))
+  FairFront i = AllByRecursion (λ x. fair k x ≡ true) (take i (orders_of its))
 
   pub front_more : (i : ℕ) (d : Given) → i < length its → fair k (order_of (get_or its i d)) ≡ true → FairFront i → FairFront (i + 1)
   front_more i d lt h front = All-more (λ x. fair k x ≡ true) (orders_of its) i (order_of d) (omega (arith, number)) front (ap (fair k) (order_at i d (order_of d) lt) ∙ h)
@@ -64,7 +64,7 @@ module _ (k : Meaning) (its : List Given) where
   pub front_all : (i : ℕ) → 0 < length its → length its ≤ 64 → length its ≤ i → FairFront i → flaw k (orders_of its) ≡ None
   front_all i some few all front =
       (finds_flaws k (orders_of its)).nothing (omega (arith, number)) (omega (arith, number))
-      (subst (λ (l : List Order). All (λ x. fair k x ≡ true) l) (take_all i (orders_of its) (omega (arith, number))) front)
+      (subst (λ (l : List Order). AllByRecursion (λ x. fair k x ≡ true) l) (take_all i (orders_of its) (omega (arith, number))) front)
 
   -- nothing is wrong
   module _ (sound : flaw k (orders_of its) ≡ None) where

@@ -1,7 +1,7 @@
 -- The model's solutions are the packings: a flow comes apart into bins, and bins add up to a flow.
 use Rattle.std.proofs.Common.{◌≡◌, ℕ, zero, suc, ◌+◌, ◌*◌, ◌≤◌, ◌⊎◌, List, [], ◌∷◌, length, sym, ◌∙◌, subst, inl, inr, arith}
 use lib.ListN.{length-map}
-use Rattle.std.specs.List.{AllByRecursion as All}
+use Rattle.std.specs.List.{AllByRecursion}
 use Rattle.std.proofs.lemmas.Bool.{cases_eq}
 use Rattle.graph.specs.declared.Row.{Row}
 use Rattle.packing.specs.Problem.{Problem, demands, items, Pattern, Bin, times_of, copies_in, Packing}
@@ -24,8 +24,8 @@ module _ (p : Problem) (g : List Row) (s : Forward (length p.orders) g) (spells 
   -- bins that make up a flow
   record MakesUp (f : List ℕ) : Type 0 where
     bins : List Bin
-    patterns : All (λ b. Pattern p b.counts) bins
-    used : All (λ b. 1 ≤ b.times) bins
+    patterns : AllByRecursion (λ b. Pattern p b.counts) bins
+    used : AllByRecursion (λ b. 1 ≤ b.times) bins
     total : times_of bins ≡ value f
     copies : (i : ℕ) → 1 ≤ i → copies_in bins i ≡ copies_of g f i
 
@@ -67,7 +67,7 @@ module _ (p : Problem) (g : List Row) (s : Forward (length p.orders) g) (spells 
     worth : value flow ≡ value f + times_of bins
     copies : (i : ℕ) → 1 ≤ i → copies_of g flow i ≡ copies_of g f i + copies_in bins i
 
-  adds_up : (bins : List Bin) (f : List ℕ) → OnArcs g f → Balanced g f → All (λ b. Pattern p b.counts) bins → Adds f bins
+  adds_up : (bins : List Bin) (f : List ℕ) → OnArcs g f → Balanced g f → AllByRecursion (λ b. Pattern p b.counts) bins → Adds f bins
   adds_up [] f on_arcs bal pats = record { flow = f; on_arcs = on_arcs; balanced = bal; worth = omega arith; copies = λ i low. omega arith }
   adds_up (b ∷ bins) f on_arcs bal pats =
       let found = (spells b.counts).1 pats.0 in

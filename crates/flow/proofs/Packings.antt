@@ -1,7 +1,7 @@
 -- Any packing can be placed, and is accepted.
 use Rattle.std.proofs.Common.{◌≡◌, ℕ, suc, ◌+◌, ◌*◌, ◌≤◌, Bool, true, false, cond, ◌||◌, eqb, ltb, leb, ◌⊎◌, ◌↔◌, List, [], ◌∷◌, ◌++◌, length, replicate, Some, None, sym, refl, ap, ◌∙◌, inl, inr, arith}
 use lib.ListN.{length-map}
-use Rattle.std.specs.List.{AllByRecursion as All}
+use Rattle.std.specs.List.{AllByRecursion}
 use Rattle.std.proofs.lemmas.Bool.{eq-eqb, ne_eqb, le-ltb, or_from, and_parts, cond-false, false≢true, cases_Bool}
 use Rattle.packing.specs.Packing.{Item, within, total}
 use Rattle.packing.specs.Problem.{Problem, demands, item_of, items, entry, is_pattern, Pattern, Bin, times_of, copies_in}
@@ -145,7 +145,7 @@ holding_placed p j good u counts arcs t path hold = record {
 
 -- the rest of a packing is placed with no refusal, and the whole is accepted
 place_all : (size : ℕ) (p : Problem) (bins : List Bin) (j : Content) → Good p j → (u : ℕ) → Holding j u →
-    All (λ b. Pattern p b.counts) bins → All (λ b. 1 ≤ b.times) bins → u + times_of bins ≤ limit →
+    AllByRecursion (λ b. Pattern p b.counts) bins → AllByRecursion (λ b. 1 ≤ b.times) bins → u + times_of bins ≤ limit →
     ((i : ℕ) → 1 ≤ i → i ≤ length j.demands → entry j.demands i ≤ copies_of j.graph j.flow i + copies_in bins i) →
     (arcs : ℕ) × (answers size (Open j) (placed bins ++ (Accept ∷ [])) ≡ replicate (length bins) (Done Plain) ++ (Done (Worth (u + times_of bins) arcs) ∷ []))
 place_all size p [] j good u hold pats used small covers =

@@ -1,6 +1,6 @@
 -- Placing a path: balance stays, the value grows by the times, the copies by times × count.
 use Rattle.std.proofs.Common.{◌≡◌, ℕ, zero, suc, ◌+◌, ◌*◌, ◌<◌, ◌≤◌, eqb, ◌⊎◌, List, [], ◌∷◌, length, set, None, sym, refl, ap, ◌∙◌, subst, inl, inr, arith, length-set, get_or-set_other, get_or-set_same}
-use Rattle.std.specs.List.{AllByRecursion as All}
+use Rattle.std.specs.List.{AllByRecursion}
 use Rattle.std.proofs.lemmas.Bool.{cases_eq, ne_eqb}
 use Rattle.graph.specs.declared.Row.{Row}
 use Rattle.flow.proofs.Shape.{not_none}
@@ -14,7 +14,7 @@ use Rattle.flow.proofs.Linear.{weight, Within, Rising, push_linear, inflow_linea
 use Rattle.flow.proofs.Paths.{head_pass, head_take, path_within, path_rising, path_balance, path_source, source_takes}
 
 abbrev pub Apart : ℕ → List ℕ → Type 0
-Apart a arcs = All (λ b. a ≡ b → ⊥) arcs
+Apart a arcs = AllByRecursion (λ b. a ≡ b → ⊥) arcs
 
 pub length_push : (arcs f : List ℕ) (t : ℕ) → length (push f arcs t) ≡ length f
 length_push [] f t = refl

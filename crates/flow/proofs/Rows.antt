@@ -1,6 +1,6 @@
 -- A flow is accepted if and only if it meets every row of the model and its value is within the limit.
 use Rattle.std.proofs.Common.{◌≡◌, ℕ, zero, suc, ◌+◌, ◌-◌, ◌<◌, ◌≤◌, true, cond, ltb, ◌⊎◌, ◌↔◌, List, [], ◌∷◌, ◌++◌, map, length, get_or, is_some, Some, None, Option, sym, refl, ap, ◌∙◌, subst, inl, inr, arith}
-use Rattle.std.specs.List.{AllByRecursion as All}
+use Rattle.std.specs.List.{AllByRecursion}
 use Rattle.std.proofs.ByRecursion.{All-append}
 use Rattle.std.proofs.lemmas.Bool.{cases_eq, cond_both, ltb-false, false≢true}
 use Rattle.graph.specs.declared.Row.{Row}
@@ -101,23 +101,23 @@ met_source g f arcs z e =
 
 -- Rows for the numbers below n.
 module _ (P : Constraint → Type 0) (h : ℕ → Constraint) where
-  all_parts : (xs ys : List ℕ) → All P (map h (xs ++ ys)) → All P (map h xs) × All P (map h ys)
+  all_parts : (xs ys : List ℕ) → AllByRecursion P (map h (xs ++ ys)) → AllByRecursion P (map h xs) × AllByRecursion P (map h ys)
   all_parts [] ys c = (tt, c)
   all_parts (x ∷ xs) ys c = ((c.0, (all_parts xs ys c.1).0), (all_parts xs ys c.1).1)
 
-  all_both : (xs ys : List ℕ) → All P (map h xs) → All P (map h ys) → All P (map h (xs ++ ys))
+  all_both : (xs ys : List ℕ) → AllByRecursion P (map h xs) → AllByRecursion P (map h ys) → AllByRecursion P (map h (xs ++ ys))
   all_both [] ys c d = d
   all_both (x ∷ xs) ys c d = (c.0, all_both xs ys c.1 d)
 
-  pub rows_to : (n : ℕ) → ((k : ℕ) → k < n → P (h k)) → All P (map h (numbers (λ k. true) n))
+  pub rows_to : (n : ℕ) → ((k : ℕ) → k < n → P (h k)) → AllByRecursion P (map h (numbers (λ k. true) n))
   rows_to zero each = tt
   rows_to (suc n) each = all_both (numbers (λ k. true) n) (n ∷ []) (rows_to n (λ k l. each k (omega arith))) (each n (omega arith), tt)
 
-  pub rows_from : (n : ℕ) → All P (map h (numbers (λ k. true) n)) → (k : ℕ) → k < n → P (h k)
+  pub rows_from : (n : ℕ) → AllByRecursion P (map h (numbers (λ k. true) n)) → (k : ℕ) → k < n → P (h k)
   rows_from zero c k l = absurd (omega arith)
   rows_from (suc n) c k l = go (rows_from n parts.0 k) (cases_eq k n)
     where
-      parts : All P (map h (numbers (λ k. true) n)) × All P (map h (n ∷ []))
+      parts : AllByRecursion P (map h (numbers (λ k. true) n)) × AllByRecursion P (map h (n ∷ []))
       parts = all_parts (numbers (λ k. true) n) (n ∷ []) c
 
       go : (k < n → P (h k)) → (k ≡ n) ⊎ (k ≡ n → ⊥) → P (h k)
@@ -126,21 +126,21 @@ module _ (P : Constraint → Type 0) (h : ℕ → Constraint) where
 
 -- The rows of the items from i on.
 module _ (g : List Row) (f : List ℕ) (z : ℕ) where
-  pub items_to : (i : ℕ) (demands : List ℕ) → ((k j : ℕ) → j ≡ i + k → k < length demands → get_or demands k 0 ≤ copies_of g f j) → All (Met z f) (item_rows g i demands)
+  pub items_to : (i : ℕ) (demands : List ℕ) → ((k j : ℕ) → j ≡ i + k → k < length demands → get_or demands k 0 ≤ copies_of g f j) → AllByRecursion (Met z f) (item_rows g i demands)
   items_to i [] h = tt
   items_to i (b ∷ demands) h = (
     omega (arith, h 0 i (omega arith) (omega arith), added_all z f (item_arcs g i), taken_all z f (item_arcs g i)),
     items_to (suc i) demands (λ k j e l. h (suc k) j (omega arith) (omega arith)),
   )
 
-  pub items_from : (i : ℕ) (demands : List ℕ) → All (Met z f) (item_rows g i demands) → (k j : ℕ) → j ≡ i + k → k < length demands → get_or demands k 0 ≤ copies_of g f j
+  pub items_from : (i : ℕ) (demands : List ℕ) → AllByRecursion (Met z f) (item_rows g i demands) → (k j : ℕ) → j ≡ i + k → k < length demands → get_or demands k 0 ≤ copies_of g f j
   items_from i [] c k j e l = absurd (omega arith)
   items_from i (b ∷ demands) c zero j e l =
       let same : i ≡ j = omega arith in
       subst (λ x. b ≤ copies_of g f x) same (omega (arith, c.0, added_all z f (item_arcs g i), taken_all z f (item_arcs g i)))
   items_from i (b ∷ demands) c (suc k) j e l = items_from (suc i) demands c.1 k j (omega arith) (omega arith)
 
-pub all_split : {A : Type 0} (P : A → Type 0) (xs ys : List A) → All P (xs ++ ys) → All P xs × All P ys
+pub all_split : {A : Type 0} (P : A → Type 0) (xs ys : List A) → AllByRecursion P (xs ++ ys) → AllByRecursion P xs × AllByRecursion P ys
 all_split P [] ys c = (tt, c)
 all_split P (x ∷ xs) ys c = ((c.0, (all_split P xs ys c.1).0), (all_split P xs ys c.1).1)
 
@@ -163,7 +163,7 @@ module _ (g : List Row) (f : List ℕ) (on_arcs : OnArcs g f) (demands : List �
       each k i e l = subst (λ x. get_or demands k 0 ≤ copies_of g f x) (omega arith) (enough (suc k) (omega arith) (omega arith))
 
   module _ (z : ℕ) (meets : Meets z f (model g demands)) where
-    parts : All (Met z f) (map (node_row g) (numbers (λ n. true) (length g - 1))) × All (Met z f) (item_rows g 1 demands)
+    parts : AllByRecursion (Met z f) (map (node_row g) (numbers (λ n. true) (length g - 1))) × AllByRecursion (Met z f) (item_rows g 1 demands)
     parts = all_split (Met z f) (map (node_row g) (numbers (λ n. true) (length g - 1))) (item_rows g 1 demands) meets
 
     pub model_value : 1 < length g → value f ≡ z

@@ -1,7 +1,7 @@
 -- The law over whole runs.
 use Rattle.std.proofs.Common.{◌≡◌, ℕ, zero, suc, ◌+◌, ◌*◌, ◌<◌, ◌≤◌, min, Bool, true, false, cond, not, ◌&&◌, ◌||◌, eqb, ltb, leb, ◌↔◌, List, [], ◌∷◌, length, set, replicate, is_some, Some, None, Option, sym, refl, ap, ◌∙◌, subst, arith, length-set, get_or-set_other}
 use lib.ListN.{length-replicate, length-map}
-use Rattle.std.specs.List.{AllByRecursion as All}
+use Rattle.std.specs.List.{AllByRecursion}
 use Rattle.std.proofs.lemmas.Bool.{and_from, cond_both, cond-true, cond-false, ne_eqb, le-ltb, le-leb, lt-ltb, eqb-false, not-false, false≢true}
 use Rattle.limits.specs.Meaning.{Meaning, Rules}
 use Rattle.graph.specs.declared.Row.{Row}
@@ -35,8 +35,8 @@ record Ledger (p : Problem) (acc : Acceptance) (bins : List Bin) (j : Content) :
   value_adds_up : times_of bins + value j.flow ≡ acc.z
   copies_add_up : (i : ℕ) → 1 ≤ i → copies_in bins i + copies_of j.graph j.flow i ≡ copies_of j.graph acc.flow i
   demand_met : (i : ℕ) → 1 ≤ i → i ≤ length j.demands → entry j.demands i ≤ copies_of j.graph acc.flow i
-  patterns : All (λ b. Pattern p b.counts) bins
-  used : All (λ b. 1 ≤ b.times) bins
+  patterns : AllByRecursion (λ b. Pattern p b.counts) bins
+  used : AllByRecursion (λ b. 1 ≤ b.times) bins
   peels : length bins + carrying j.flow ≤ acc.arcs
   counted : acc.arcs ≡ carrying acc.flow
 
@@ -288,7 +288,7 @@ kept_step size h v (Peel cells) r k = kept_peel h v cells k
 kept_step size h v Clear r k = kept_clear h v k
 kept_step size h v (Ask q) r k = subst (λ h. Kept h v) (sym (quiet_ask size v q h (Ask q) v)) k
 
-kept_run : (size : ℕ) (t : Moment) (calls : List Call) → All Ruled calls → Kept t.history t.view → Kept (run size t calls).history (run size t calls).view
+kept_run : (size : ℕ) (t : Moment) (calls : List Call) → AllByRecursion Ruled calls → Kept t.history t.view → Kept (run size t calls).history (run size t calls).view
 kept_run size t [] rules k = k
 kept_run size t (c ∷ calls) rules k = kept_run size (after size t c) calls rules.1 (kept_step size t.history t.view c rules.0 k)
 

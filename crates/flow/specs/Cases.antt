@@ -1,6 +1,6 @@
 -- Worked cases: small problems with their graphs, patterns and calls written out.
 use Rattle.std.specs.Prelude.{◌≡◌, ℕ, List, [], ◌∷◌, ◌++◌, length, Some, None}
-use Rattle.std.specs.List.{AllByRecursion as All}
+use Rattle.std.specs.List.{AllByRecursion}
 use Rattle.limits.specs.Meaning.{Meaning}
 use Rattle.limits.specs.Numbers.{length_meaning}
 use Rattle.limits.specs.Colours.{colours_meaning}
@@ -83,7 +83,7 @@ pub record MarkedCases : Type 0 where
 abbrev pub CasesRuled : Type 0
 CasesRuled =
     (w most : ℕ) (orders : List Order) (loads : ℕ) →
-    All Ruled (Compile (length_meaning w) orders loads ∷ Compile (colours_meaning most) orders loads ∷ Compile (counted_meaning most (length_meaning w)) orders loads ∷ [])
+    AllByRecursion Ruled (Compile (length_meaning w) orders loads ∷ Compile (colours_meaning most) orders loads ∷ Compile (counted_meaning most (length_meaning w)) orders loads ∷ [])
 
 -- refusals: no arc 3, too much flow, no pattern, too few counts, an unbalanced node, too few copies, one time too many,
 -- nothing accepted, reduce with flow, too few cells; then no items, a demand of 0, fields without a weight, and no room

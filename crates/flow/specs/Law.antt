@@ -1,7 +1,7 @@
 -- The law over whole runs: whatever calls follow one another on a new job, its graph spells the patterns of the problem last
 -- compiled, the bins handed out and what is left add up to what was accepted, and every packing can be placed and is accepted.
 use Rattle.std.specs.Prelude.{◌≡◌, ℕ, ◌+◌, ◌<◌, ◌≤◌, Bool, true, false, ◌↔◌, List, [], ◌∷◌, ◌++◌, map, length, replicate, IfSome, Some, None, Option}
-use Rattle.std.specs.List.{AllByRecursion as All}
+use Rattle.std.specs.List.{AllByRecursion}
 use Rattle.limits.specs.Meaning.{Rules}
 use Rattle.refusal.specs.declared.Refusal.TheVariants.{NoPattern}
 use Rattle.graph.specs.declared.Row.{Row}
@@ -135,7 +135,7 @@ pub record AcceptedHolds (size : ℕ) (h : History) (j : Content) : Type 0 where
   pub value_told : (step size (Accepted j) (Ask ValueLeft)).0 ≡ told (Amount (value j.flow))
   pub copies_told : (i : ℕ) → 1 ≤ i → i ≤ length problem.orders → (step size (Accepted j) (Ask (CopiesLeft i))).0 ≡ told (Amount (copies_of j.graph j.flow i))
   -- each bin handed out is a pattern
-  pub patterns : All (λ b. Pattern problem b.counts) h.handed
+  pub patterns : AllByRecursion (λ b. Pattern problem b.counts) h.handed
   -- the peels done since never outnumber the arcs counted, which are those that then carried flow
   pub peels : length h.handed ≤ acceptance.arcs
   pub counted : acceptance.arcs ≡ carrying acceptance.flow
@@ -152,4 +152,4 @@ Holds size h (Accepted j) = AcceptedHolds size h j
 
 -- The law: it holds after every run.
 abbrev pub PacksSoundly : Type 0
-PacksSoundly = (size : ℕ) (calls : List Call) → All Ruled calls → Holds size (run size new_job calls).history (run size new_job calls).view
+PacksSoundly = (size : ℕ) (calls : List Call) → AllByRecursion Ruled calls → Holds size (run size new_job calls).history (run size new_job calls).view

@@ -1,6 +1,6 @@
 -- The integer model as a value: minimise z subject to one row for each node but the target and one for each item.
 use Rattle.std.specs.Prelude.{◌≡◌, ℕ, zero, suc, ◌+◌, ◌-◌, ◌≤◌, true, List, [], ◌∷◌, ◌++◌, map, length}
-use Rattle.std.specs.List.{AllByRecursion as All}
+use Rattle.std.specs.List.{AllByRecursion}
 use Rattle.graph.specs.declared.Row.{Row}
 use Rattle.flow.specs.Arcs.{all_arcs, arcs_into, arcs_out, item_arcs, numbers}
 use Rattle.flow.specs.Flow.{on}
@@ -99,4 +99,4 @@ Met z f c = Related c.relation (added z f c.terms) (taken_off z f c.terms + c.ri
 
 -- every row of the model holds
 abbrev pub Meets : ℕ → List ℕ → Model → Type 0
-Meets z f m = All (Met z f) m.rows
+Meets z f m = AllByRecursion (Met z f) m.rows

@@ -1,7 +1,7 @@
 -- A compiled graph has the shape of a graph for its items.
 use Rattle.std.proofs.Common.{◌≡◌, ℕ, zero, suc, ◌+◌, ◌<◌, ◌≤◌, Bool, true, false, List, [], ◌∷◌, ◌++◌, map, length, is_some, Some, None, Option, sym, refl, ap, ◌∙◌, subst, inl, inr, arith, length-append}
 use lib.ListN.{length-map}
-use Rattle.std.specs.List.{AllByRecursion as All}
+use Rattle.std.specs.List.{AllByRecursion}
 use Rattle.std.proofs.lemmas.List.{append_assoc, get_or_append_left, get_or_at}
 use Rattle.std.proofs.ByRecursion.{All-append, All-get_or, All-weaker}
 use Rattle.std.proofs.lemmas.Bool.{or_left, or_right, cases_lt}
@@ -22,9 +22,9 @@ Upto r q = (r.item ≤ q.item) × (r.item ≡ q.item → r.copies ≤ q.copies)
 
 abbrev Sorted : List Row → Type 0
 Sorted [] = Unit {0}
-Sorted (r ∷ rs) = All (Upto r) rs × Sorted rs
+Sorted (r ∷ rs) = AllByRecursion (Upto r) rs × Sorted rs
 
-sorted_append : (P Q : Row → Type 0) → ((r q : Row) → P r → Q q → Upto r q) → (xs ys : List Row) → All P xs → All Q ys → Sorted xs → Sorted ys → Sorted (xs ++ ys)
+sorted_append : (P Q : Row → Type 0) → ((r q : Row) → P r → Q q → Upto r q) → (xs ys : List Row) → AllByRecursion P xs → AllByRecursion Q ys → Sorted xs → Sorted ys → Sorted (xs ++ ys)
 sorted_append P Q upto [] ys ps qs a b = b
 sorted_append P Q upto (x ∷ xs) ys ps qs a b = (
   All-append (Upto x) xs ys a.0 (All-weaker Q (Upto x) (λ q h. upto x q ps.0 h) ys qs),
@@ -35,7 +35,7 @@ sorted_append P Q upto (x ∷ xs) ys ps qs a b = (
 abbrev In : ℕ → ℕ → Row → Type 0
 In i c r = (r.item ≡ i) × (r.copies ≡ c)
 
-sorted_stage : (i c : ℕ) (xs : List Row) → All (In i c) xs → Sorted xs
+sorted_stage : (i c : ℕ) (xs : List Row) → AllByRecursion (In i c) xs → Sorted xs
 sorted_stage i c [] h = tt
 sorted_stage i c (x ∷ xs) h =
     (All-weaker (In i c) (Upto x) (λ q k. (omega (arith, h.0.0, k.0), λ e. omega (arith, h.0.1, k.1))) xs h.1, sorted_stage i c xs h.1)
@@ -46,7 +46,7 @@ sorted_at (x ∷ xs) s n zero lt in_range = absurd (omega arith)
 sorted_at (x ∷ xs) s zero (suc t) lt in_range = All-get_or (Upto x) xs t blank (omega arith) s.0
 sorted_at (x ∷ xs) s (suc n) (suc t) lt in_range = sorted_at xs s.1 n t (omega arith) (omega arith)
 
-all_stage : (P : Row → Type 0) (f : List ℕ → Row) (s : List (List ℕ)) → ((a : List ℕ) → holds a s ≡ true → P (f a)) → All P (map f s)
+all_stage : (P : Row → Type 0) (f : List ℕ → Row) (s : List (List ℕ)) → ((a : List ℕ) → holds a s ≡ true → P (f a)) → AllByRecursion P (map f s)
 all_stage P f [] h = tt
 all_stage P f (a ∷ s) h = (
   h a (or_left (same_list a a) (holds a s) ((decides_same_list a a).1 refl)),
@@ -98,7 +98,7 @@ module _ (k : Meaning) where
   item_led : (w : List ℕ) (pass : List ℕ → Option ℕ) (i c b o : ℕ) (s : List (List ℕ)) (g front back : List Row)
       → length front ≡ o → g ≡ front ++ (item_rows k w pass i c b o s ++ back)
       → ((a : List ℕ) → holds a (layer k w b s) ≡ true → (t : ℕ) → pass a ≡ Some t → (t < length g) × In (suc i) 0 (at g t))
-      → All (Led g) (item_rows k w pass i c b o s)
+      → AllByRecursion (Led g) (item_rows k w pass i c b o s)
   item_led w pass i c zero o s g front back long is passes =
       all_stage (Led g) (λ z. row i c None (pass z)) s (λ a h. record {
         passed = λ t e. let p = passes a h t e in (p.0, p.1.0, p.1.1);
@@ -128,7 +128,7 @@ module _ (k : Meaning) where
               subst (λ (z : ℕ). (z < length g) × ((at g z).item ≡ i) × ((at g z).copies ≡ suc c)) (unsome _ u (rw f at e)) (p.0, p.1.0, p.1.1)
           go false f = absurd (some≢none u (sym (rw f at e)))
 
-  from_led : (items : List Item) (i o : ℕ) (s : List (List ℕ)) (g front : List Row) → length front ≡ o → g ≡ front ++ rows_from k i o s items → All (Led g) (rows_from k i o s items)
+  from_led : (items : List Item) (i o : ℕ) (s : List (List ℕ)) (g front : List Row) → length front ≡ o → g ≡ front ++ rows_from k i o s items → AllByRecursion (Led g) (rows_from k i o s items)
   from_led [] i o s g front long is = (record { passed = λ t e. absurd (some≢none t (sym e)); taken = λ t e. absurd (some≢none t (sym e)) }, tt)
   from_led (x ∷ xs) i o s g front long is =
       let w = x.weight in
@@ -148,7 +148,7 @@ module _ (k : Meaning) where
   abbrev Of : ℕ → ℕ → Row → Type 0
   Of i c r = (r.item ≡ i) × (c ≤ r.copies) × (is_some r.pass ≡ true)
 
-  item_of : (w : List ℕ) (pass : List ℕ → Option ℕ) → ((a : List ℕ) → is_some (pass a) ≡ true) → (i c b o : ℕ) (s : List (List ℕ)) → All (Of i c) (item_rows k w pass i c b o s) × Sorted (item_rows k w pass i c b o s)
+  item_of : (w : List ℕ) (pass : List ℕ → Option ℕ) → ((a : List ℕ) → is_some (pass a) ≡ true) → (i c b o : ℕ) (s : List (List ℕ)) → AllByRecursion (Of i c) (item_rows k w pass i c b o s) × Sorted (item_rows k w pass i c b o s)
   item_of w pass goes i c zero o s = (
     all_stage (Of i c) (λ z. row i c None (pass z)) s (λ a h. (refl, omega arith, goes a)),
     sorted_stage i c (map (λ z. row i c None (pass z)) s) (all_stage (In i c) (λ z. row i c None (pass z)) s (λ a h. (refl, refl))),
@@ -157,7 +157,7 @@ module _ (k : Meaning) where
       let f : List ℕ → Row = row_taking k w pass i c (o + length s) (raised k w s) in
       let below = item_rows k w pass i (suc c) b (o + length s) (raised k w s) in
       let ih = item_of w pass goes i (suc c) b (o + length s) (raised k w s) in
-      let here : All (In i c) (map f s) = all_stage (In i c) f s (λ a h. (refl, refl)) in (
+      let here : AllByRecursion (In i c) (map f s) = all_stage (In i c) f s (λ a h. (refl, refl)) in (
         All-append (Of i c) (map f s) below
             (all_stage (Of i c) f s (λ a h. (refl, omega arith, goes a)))
             (All-weaker (Of i (suc c)) (Of i c) (λ r h. (h.0, omega (arith, h.1), h.2)) below ih.0),
@@ -172,7 +172,7 @@ module _ (k : Meaning) where
   record Ends (i : ℕ) (items : List Item) (rows : List Row) : Type 0 where
     init : List Row
     is : rows ≡ init ++ row (i + length items) 0 None None ∷ []
-    inner : All (Inner i (i + length items)) init
+    inner : AllByRecursion (Inner i (i + length items)) init
     sorted : Sorted rows
 
   from_ends : (items : List Item) (i o : ℕ) (s : List (List ℕ)) → Ends i items (rows_from k i o s items)
@@ -198,7 +198,7 @@ module _ (k : Meaning) where
             (All-weaker (Of i 0) (Inner i (i + suc (length xs))) (λ r h. (omega (arith, h.0), omega (arith, h.0), h.2)) first of.0)
             (All-weaker (Inner (suc i) (suc i + length xs)) (Inner i (i + suc (length xs))) (λ r h. (omega (arith, h.0), omega (arith, h.1), h.2)) more.init more.inner);
         sorted = sorted_append (Of i 0) (λ q. suc i ≤ q.item) (λ r q a h. (omega (arith, a.0, h), λ e. absurd (omega (arith, a.0, h, e)))) first rest of.0
-            (subst (All (λ q. suc i ≤ q.item)) (sym more.is)
+            (subst (AllByRecursion (λ q. suc i ≤ q.item)) (sym more.is)
             (All-append (λ q. suc i ≤ q.item) more.init (end ∷ [])
             (All-weaker (Inner (suc i) (suc i + length xs)) (λ q. suc i ≤ q.item) (λ r h. h.0) more.init more.inner)
             (omega arith, tt)))
@@ -249,7 +249,7 @@ module _ (k : Meaning) where
       long : length g ≡ length ends.init + 1
       long = ap length ends.is ∙ length-append ends.init (row (1 + length items) 0 None None ∷ [])
 
-      led : All (Led g) g
+      led : AllByRecursion (Led g) g
       led = from_led items 1 0 (k.empty ∷ []) g [] refl refl
 
       -- node t is not before node n, since neither their being one nor their order allows it

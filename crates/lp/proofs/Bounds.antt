@@ -1,6 +1,6 @@
 -- The numbers of a graph's model are small.
 use Rattle.std.proofs.Common.{ℕ, zero, suc, ◌+◌, ◌-◌, ◌*◌, ◌^◌, ◌<◌, ◌≤◌, Bool, true, false, List, [], ◌∷◌, length, is_some, arith}
-use Rattle.std.specs.List.{AllByRecursion as All}
+use Rattle.std.specs.List.{AllByRecursion}
 use Rattle.std.proofs.ByRecursion.{All-append, All-map, All-weaker}
 use Rattle.graph.specs.declared.Row.{Row}
 use Rattle.graph.specs.Graph.{at, head}
@@ -10,19 +10,19 @@ use Rattle.lp.specs.Writing.{only_if}
 use Rattle.lp.specs.Reading.{WithinVariable, WithinRow, Within, variable_of, GraphsReadBack}
 use Rattle.lp.proofs.ReadsBack.{reads_back}
 
-only_below : (b : Bool) (n most : ℕ) → n < most → All (λ a. a < most) (only_if b n)
+only_below : (b : Bool) (n most : ℕ) → n < most → AllByRecursion (λ a. a < most) (only_if b n)
 only_below true n most h = (h, tt)
 only_below false n most h = tt
 
-numbers_below : (p : ℕ → Bool) (n most : ℕ) → n ≤ most → All (λ a. a < most) (numbers p n)
+numbers_below : (p : ℕ → Bool) (n most : ℕ) → n ≤ most → AllByRecursion (λ a. a < most) (numbers p n)
 numbers_below p zero most h = tt
 numbers_below p (suc n) most h = All-append (λ a. a < most) (numbers p n) (only_if (p n) n) (numbers_below p n most (omega arith)) (only_below (p n) n most (omega arith))
 
 module _ (g : List Row) (few : length g ≤ 65535) where
-  plus_within : (arcs : List ℕ) → All (λ a. a < 2 ^ 64) arcs → All (λ t. WithinVariable (variable_of t)) (plus arcs)
+  plus_within : (arcs : List ℕ) → AllByRecursion (λ a. a < 2 ^ 64) arcs → AllByRecursion (λ t. WithinVariable (variable_of t)) (plus arcs)
   plus_within arcs h = All-map (λ t. WithinVariable (variable_of t)) (λ a. Plus (X a)) arcs h
 
-  supply_within : (n : ℕ) → All (λ t. WithinVariable (variable_of t)) (supply g n)
+  supply_within : (n : ℕ) → AllByRecursion (λ t. WithinVariable (variable_of t)) (supply g n)
   supply_within zero = (tt, tt)
   supply_within (suc n) =
       All-map (λ t. WithinVariable (variable_of t)) (λ a. Minus (X a)) (arcs_into g (suc n)) (numbers_below (λ a. is (head g a) (suc n)) (2 * length g) (2 ^ 64) (omega arith))
@@ -38,14 +38,14 @@ module _ (g : List Row) (few : length g ≤ 65535) where
     right = omega arith;
   }
 
-  items_within : (i : ℕ) (demands : List ℕ) → i + length demands ≤ 65 → All (λ b. b ≤ 4095) demands → All WithinRow (item_rows g i demands)
+  items_within : (i : ℕ) (demands : List ℕ) → i + length demands ≤ 65 → AllByRecursion (λ b. b ≤ 4095) demands → AllByRecursion WithinRow (item_rows g i demands)
   items_within i [] short h = tt
   items_within i (b ∷ demands) short h = (
     record { label = omega arith; terms = plus_within (item_arcs g i) (numbers_below _ (2 * length g) (2 ^ 64) (omega arith)); right = omega (arith, h.0) },
     items_within (suc i) demands (omega arith) h.1,
   )
 
-  within : (demands : List ℕ) → length demands ≤ 64 → All (λ b. b ≤ 4095) demands → Within (model g demands)
+  within : (demands : List ℕ) → length demands ≤ 64 → AllByRecursion (λ b. b ≤ 4095) demands → Within (model g demands)
   within demands short h = record {
     rows =
         All-append WithinRow (node_rows g) (item_rows g 1 demands)
@@ -54,7 +54,7 @@ module _ (g : List Row) (few : length g ≤ 65535) where
     variables = (tt, All-map WithinVariable X (all_arcs g) (numbers_below (λ a. is_some (head g a)) (2 * length g) (2 ^ 64) (omega arith)));
   }
     where
-      nodes : (most n : ℕ) → n ≤ most → All (λ a. a < most) (numbers (λ n. true) n)
+      nodes : (most n : ℕ) → n ≤ most → AllByRecursion (λ a. a < most) (numbers (λ n. true) n)
       nodes most n l = numbers_below (λ n. true) n most l
 
 pub graphs_read_back : GraphsReadBack

@@ -1,7 +1,7 @@
 -- Linked lists of arcs, followed and built.
 use Rattle.std.proofs.Common.{◌≡◌, ℕ, zero, suc, ◌+◌, ◌-◌, ◌*◌, ◌/◌, ◌<◌, ◌≤◌, Bool, true, false, cond, eqb, ◌⊎◌, List, [], ◌∷◌, ◌++◌, length, get_or, set, replicate, IfSome, Some, None, Option, sym, refl, ap, ◌∙◌, subst, inl, inr, append_assoc, add-zero, arith, length-append, length-set, get_or-set_other, get_or-set_same}
 use lib.ListN.{length-replicate}
-use Rattle.std.specs.List.{AllByRecursion as All}
+use Rattle.std.specs.List.{AllByRecursion}
 use Rattle.std.proofs.lemmas.List.{append-nil, get_or-replicate}
 use Rattle.std.proofs.lemmas.Bool.{cases_eq, eq-eqb, ne_eqb}
 use Rattle.graph.specs.declared.Row.{Row}
@@ -70,20 +70,20 @@ numbers_later p n (suc k) = go (p n) refl ∙ numbers_later p (suc n) k ∙ ap (
         split true = sym (append_assoc (numbers p n) (n ∷ []) (later p (suc n) k))
         split false = ap (λ xs. xs ++ later p (suc n) k) (sym (append-nil (numbers p n)))
 
-later_after : (p : ℕ → Bool) (low a k : ℕ) → low < a → All (λ b. low < b) (later p a k)
+later_after : (p : ℕ → Bool) (low a k : ℕ) → low < a → AllByRecursion (λ b. low < b) (later p a k)
 later_after p low a zero h = tt
 later_after p low a (suc k) h = go (p a) (later_after p low (suc a) k (omega arith))
   where
-    go : (b : Bool) → All (λ b. low < b) (later p (suc a) k) → All (λ b. low < b) (cond b (a ∷ later p (suc a) k) (later p (suc a) k))
+    go : (b : Bool) → AllByRecursion (λ b. low < b) (later p (suc a) k) → AllByRecursion (λ b. low < b) (cond b (a ∷ later p (suc a) k) (later p (suc a) k))
     go true rest = (h, rest)
     go false rest = rest
 
-chain_set : {next : List ℕ} {s : ℕ} {arcs : List ℕ} (i x : ℕ) → Chain next s arcs → All (λ b. i < b) arcs → Chain (set next i x) s arcs
+chain_set : {next : List ℕ} {s : ℕ} {arcs : List ℕ} (i x : ℕ) → Chain next s arcs → AllByRecursion (λ b. i < b) arcs → Chain (set next i x) s arcs
 chain_set {next} i x (over h) all = over (rw (length-set next i x) h)
 chain_set {next} i x (then {a = a} {arcs = arcs} h c) all =
     then (rw (length-set next i x) h) (subst (λ n. Chain (set next i x) n arcs) (sym (get_or-set_other next i a x 0 (λ e. omega (arith, all.0)))) (chain_set i x c all.1))
 
-start_after : {next : List ℕ} {s : ℕ} {arcs : List ℕ} (i : ℕ) → i < length next → Chain next s arcs → All (λ b. i < b) arcs → i < s
+start_after : {next : List ℕ} {s : ℕ} {arcs : List ℕ} (i : ℕ) → i < length next → Chain next s arcs → AllByRecursion (λ b. i < b) arcs → i < s
 start_after i low (over h) all = omega arith
 start_after i low (then h c) all = all.0
 
@@ -135,7 +135,7 @@ module _ (g : List Row) (first next : List ℕ) (a : ℕ) (h : Half g first next
       more : suc (2 * length g - suc a) ≡ 2 * length g - a
       more = omega (arith, h.low)
 
-  past : (v : ℕ) → All (λ b. a < b) (later (λ b. is (head g b) v) (suc a) (2 * length g - suc a))
+  past : (v : ℕ) → AllByRecursion (λ b. a < b) (later (λ b. is (head g b) v) (suc a) (2 * length g - suc a))
   past v = later_after (λ b. is (head g b) v) a (suc a) (2 * length g - suc a) (omega arith)
 
   absent : head g a ≡ None → Half g first next a

@@ -1,7 +1,7 @@
 -- A model is read back from its text.
 use Rattle.std.proofs.Common.{◌≡◌, ℕ, suc, ◌+◌, ◌%◌, ◌^◌, ◌<◌, Bool, true, false, cond, ◌&&◌, eqb, ltb, List, [], ◌∷◌, ◌++◌, map, codes, decimal, sym, refl, ap, ◌∙◌, subst, ap₂, append_assoc, arith}
 use Rattle.std.specs.Str.Parse.{digits_value}
-use Rattle.std.specs.List.{flat_map, AllByRecursion as All}
+use Rattle.std.specs.List.{flat_map, AllByRecursion}
 use Rattle.std.proofs.lemmas.Fmt.{decimal_is_IsNumeral, decimal_by_steps}
 use Rattle.std.proofs.ByRecursion.{All-append}
 use Rattle.std.proofs.lemmas.List.{append-nil, map-id}
@@ -19,7 +19,7 @@ abbrev Begins : List ℕ → Type 0
 Begins bytes = (ws : List (List ℕ)) × (pieces bytes ≡ [] ∷ ws)
 
 abbrev Plain : List ℕ → Type 0
-Plain w = All (λ c. separates c ≡ false) w
+Plain w = AllByRecursion (λ c. separates c ≡ false) w
 
 pieces_word : (w rest : List ℕ) (ws : List (List ℕ)) → Plain w → pieces rest ≡ [] ∷ ws → pieces (w ++ rest) ≡ w ∷ ws
 pieces_word [] rest ws p e = e
@@ -108,7 +108,7 @@ module _ {A : Type 0} (shown : ℕ → A → List ℕ) (to : A → Term) (P : A 
       subst Begins (sym (apart k x xs rest))
       (begins_break (ltb 0 k && eqb (k % 8) 0) (shown k x ++ (entries shown (suc k) xs ++ rest)) (starts k x (entries shown (suc k) xs ++ rest)))
 
-  read_entries : (k : ℕ) (xs : List A) (rest : List ℕ) → All P xs → Begins rest → R (entries shown k xs ++ rest) ≡ with_terms (map to xs ++ (R rest).terms) (R rest)
+  read_entries : (k : ℕ) (xs : List A) (rest : List ℕ) → AllByRecursion P xs → Begins rest → R (entries shown k xs ++ rest) ≡ with_terms (map to xs ++ (R rest).terms) (R rest)
   read_entries k [] rest h b = refl
   read_entries k (x ∷ xs) rest h b =
       ap R (apart k x xs rest)
@@ -166,7 +166,7 @@ row_more c rest rows variables h k =
       no_terms = ap (λ s. s.terms) all;
     }
 
-rows_more : (cs : List Constraint) (rest : List ℕ) (rows : List Constraint) (variables : List Variable) → All WithinRow cs → Has (R rest) rows variables →
+rows_more : (cs : List Constraint) (rest : List ℕ) (rows : List Constraint) (variables : List Variable) → AllByRecursion WithinRow cs → Has (R rest) rows variables →
     Has (R (flat_map constraint cs ++ rest)) (cs ++ rows) variables
 rows_more [] rest rows variables h k = k
 rows_more (c ∷ cs) rest rows variables h k =
@@ -178,7 +178,7 @@ plus_variables : (xs : List Variable) → map variable_of (map Plus xs ++ []) �
 plus_variables [] = refl
 plus_variables (x ∷ xs) = ap (λ e. x ∷ e) (plus_variables xs)
 
-listing_has : (xs : List Variable) → All WithinVariable xs → Has (R (codes "Generals\n" ++ (entries listed 0 xs ++ codes "\nEnd\n"))) [] xs
+listing_has : (xs : List Variable) → AllByRecursion WithinVariable xs → Has (R (codes "Generals\n" ++ (entries listed 0 xs ++ codes "\nEnd\n"))) [] xs
 listing_has xs h =
     let all = ap listing (read_entries listed Plus WithinVariable (λ k x rest. (_, refl)) (λ k x rest. read_variable x rest) 0 xs (codes "\nEnd\n") h (_, refl)) in
     record { rows_are = ap (λ s. s.rows) all; variables_are = ap (λ s. s.variables) all ∙ plus_variables xs; no_terms = ap (λ s. s.terms) all }

@@ -1,7 +1,7 @@
 -- A model read back from its text, word by word from the last to the first.
 use Rattle.std.specs.Prelude.{◌≡◌, ℕ, ◌^◌, ◌<◌, ◌≤◌, Bool, cond, ◌&&◌, ◌||◌, List, [], ◌∷◌, map, length, ◌==◌, nat_le}
 use Rattle.std.specs.Str.Parse.{digits_value}
-use Rattle.std.specs.List.{AllByRecursion as All}
+use Rattle.std.specs.List.{AllByRecursion}
 use Rattle.graph.specs.declared.Row.{Row}
 use Rattle.flow.specs.Model.{Variable, Variable.Z, Variable.X, Term, Term.Plus, Term.Minus, Relation, Relation.Equal, Relation.AtLeast, Label, Label.Node, Label.Item, Constraint, Model, model}
 use Rattle.flow.specs.Text.{text}
@@ -112,13 +112,13 @@ WithinLabel (Item i) = i < 2 ^ 64
 -- a row of such numbers
 pub record WithinRow (c : Constraint) : Type 0 where
   pub label : WithinLabel c.label
-  pub terms : All (λ t. WithinVariable (variable_of t)) c.terms
+  pub terms : AllByRecursion (λ t. WithinVariable (variable_of t)) c.terms
   pub right : c.right < 2 ^ 64
 
 -- a model of such numbers
 pub record Within (m : Model) : Type 0 where
-  pub rows : All WithinRow m.rows
-  pub variables : All WithinVariable m.variables
+  pub rows : AllByRecursion WithinRow m.rows
+  pub variables : AllByRecursion WithinVariable m.variables
 
 -- the text of a model tells the whole model
 abbrev pub ReadsBack : Type 0
@@ -130,4 +130,4 @@ TextsDistinguish = (m n : Model) → Within m → Within n → text m ≡ text n
 
 -- and the text of a graph's model tells that model
 abbrev pub GraphsReadBack : Type 0
-GraphsReadBack = (g : List Row) (demands : List ℕ) → length g ≤ 65535 → length demands ≤ 64 → All (λ b. b ≤ 4095) demands → reads (text (model g demands)) ≡ model g demands
+GraphsReadBack = (g : List Row) (demands : List ℕ) → length g ≤ 65535 → length demands ≤ 64 → AllByRecursion (λ b. b ≤ 4095) demands → reads (text (model g demands)) ≡ model g demands

@@ -1,7 +1,7 @@
 -- Limits in their ranges make a kind, which means what the limits mean.
 use Rattle.std.proofs.Common.{◌≡◌, ℕ, Bool, true, false, List, [], ◌∷◌, length, get_or, Some, None, sym, refl, arith}
 use Rattle.std.specs.Bool.{then_some}
-use Rattle.std.specs.List.{AllByRecursion as All}
+use Rattle.std.specs.List.{AllByRecursion}
 use Rattle.std.proofs.lemmas.Bool.{false≢true, le-leb}
 use Rattle.packing.proofs.Options.{some≢none, unsome}
 use Rattle.limits.specs.Numbers.{within}
@@ -32,7 +32,7 @@ four_are (w ∷ (x ∷ (y ∷ (z ∷ (v ∷ ns))))) e = absurd (omega (arith, e)
 abbrev largest : ℕ
 largest = 1000000000
 
-pub four_within : (ns : List ℕ) → length ns ≡ 4 → All (Within 0 1000000000) ns → within (firsts ns) (1000000000 ∷ (1000000000 ∷ (1000000000 ∷ (1000000000 ∷ [])))) ≡ true
+pub four_within : (ns : List ℕ) → length ns ≡ 4 → AllByRecursion (Within 0 1000000000) ns → within (firsts ns) (1000000000 ∷ (1000000000 ∷ (1000000000 ∷ (1000000000 ∷ [])))) ≡ true
 four_within [] e h = absurd (omega (arith, e))
 four_within (w ∷ []) e h = absurd (omega (arith, e))
 four_within (w ∷ (x ∷ [])) e h = absurd (omega (arith, e))

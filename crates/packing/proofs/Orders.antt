@@ -1,7 +1,7 @@
 -- Items with which nothing is wrong can be compiled.
 use Rattle.std.proofs.Common.{◌≡◌, ℕ, suc, ◌+◌, ◌<◌, ◌≤◌, Bool, true, false, cond, ◌&&◌, ◌||◌, eqb, ltb, leb, ◌⊎◌, List, [], ◌∷◌, ◌++◌, length, IfSome, Some, None, Option, refl, ap, ◌∙◌, inl, inr, arith, length-append}
 use Rattle.std.proofs.lemmas.Bool.{false≢true, and_parts, or_parts, or_left, or_right, or_from, eqb-false, eq-eqb, ne_eqb, lt-ltb, le-ltb}
-use Rattle.std.specs.List.{AllByRecursion as All}
+use Rattle.std.specs.List.{AllByRecursion}
 use Rattle.limits.specs.Meaning.{Meaning, Rules}
 use Rattle.packing.specs.Packing.{sound, Packable}
 use Rattle.packing.specs.Problem.{Order, fits_alone, fair, unfair, flaw, weight_of, items}
@@ -37,13 +37,13 @@ orders_packable k orders rules e = go (eqb (length orders) 0 || ltb 64 (length o
 
 -- the lowest item that is not fair
 module _ (k : Meaning) where
-  unfair_at : (before : List Order) (x : Order) (rest : List Order) (i : ℕ) → All (λ y. fair k y ≡ true) before → fair k x ≡ false
+  unfair_at : (before : List Order) (x : Order) (rest : List Order) (i : ℕ) → AllByRecursion (λ y. fair k y ≡ true) before → fair k x ≡ false
       → unfair k i (before ++ x ∷ rest) ≡ Some (i + length before)
   unfair_at [] x rest i h bad = ap (λ (b : Bool). cond b (unfair k (suc i) rest) (Some i)) bad ∙ ap Some (omega arith)
   unfair_at (y ∷ before) x rest i h bad =
       ap (λ (b : Bool). cond b (unfair k (suc i) (before ++ x ∷ rest)) (Some i)) h.0 ∙ unfair_at before x rest (suc i) h.1 bad ∙ ap Some (omega arith)
 
-  all_fair : (orders : List Order) (i : ℕ) → All (λ y. fair k y ≡ true) orders → unfair k i orders ≡ None
+  all_fair : (orders : List Order) (i : ℕ) → AllByRecursion (λ y. fair k y ≡ true) orders → unfair k i orders ≡ None
   all_fair [] i h = refl
   all_fair (y ∷ orders) i h = ap (λ (b : Bool). cond b (unfair k (suc i) orders) (Some i)) h.0 ∙ all_fair orders (suc i) h.1
 

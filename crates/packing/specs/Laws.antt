@@ -1,6 +1,6 @@
 -- What is promised of the list of patterns, and of the checks on items.
 use Rattle.std.specs.Prelude.{◌≡◌, ℕ, suc, ◌<◌, ◌≤◌, true, false, cond, ◌⊎◌, List, ◌∷◌, ◌++◌, length, Some, None}
-use Rattle.std.specs.List.{AllByRecursion as All}
+use Rattle.std.specs.List.{AllByRecursion}
 use Rattle.limits.specs.Meaning.{Meaning, Rules}
 use Rattle.packing.specs.Distinct.{occurrences, same_list}
 use Rattle.packing.specs.Packing.{Item, pattern, patterns, Packable}
@@ -14,8 +14,8 @@ ListsPatterns = (k : Meaning) (items : List Item) (counts : List ℕ) → occurr
 pub record FindsFlaw (k : Meaning) (orders : List Order) : Type 0 where
   pub by_number : (length orders ≡ 0) ⊎ (64 < length orders) → flaw k orders ≡ Some 0
   pub lowest : (before : List Order) (x : Order) (rest : List Order) → orders ≡ before ++ x ∷ rest → length orders ≤ 64 →
-      All (λ y. fair k y ≡ true) before → fair k x ≡ false → flaw k orders ≡ Some (suc (length before))
-  pub nothing : 1 ≤ length orders → length orders ≤ 64 → All (λ y. fair k y ≡ true) orders → flaw k orders ≡ None
+      AllByRecursion (λ y. fair k y ≡ true) before → fair k x ≡ false → flaw k orders ≡ Some (suc (length before))
+  pub nothing : 1 ≤ length orders → length orders ≤ 64 → AllByRecursion (λ y. fair k y ≡ true) orders → flaw k orders ≡ None
 
 -- of every kind and all orders
 abbrev pub FindsFlaws : Type 0

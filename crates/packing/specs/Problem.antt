@@ -1,6 +1,6 @@
 -- A packing problem as it is given, what is wrong with it, and its packings.
 use Rattle.std.specs.Prelude.{◌≡◌, ℕ, zero, suc, ◌+◌, ◌*◌, ◌≤◌, Bool, true, false, cond, ◌&&◌, ◌||◌, List, [], ◌∷◌, map, length, Some, None, Option, ◌==◌, nat_le, nat_lt, slice_index}
-use Rattle.std.specs.List.{AllByRecursion as All}
+use Rattle.std.specs.List.{AllByRecursion}
 use Rattle.limits.specs.Meaning.{Meaning}
 use Rattle.packing.specs.Packing.{Item, pattern}
 
@@ -79,7 +79,7 @@ copies_in (b ∷ bins) i = b.times * entry b.counts i + copies_in bins i
 
 -- a packing in z bins
 pub record Packing (p : Problem) (bins : List Bin) (z : ℕ) : Type 0 where
-  pub patterns : All (λ b. Pattern p b.counts) bins
-  pub used : All (λ b. 1 ≤ b.times) bins
+  pub patterns : AllByRecursion (λ b. Pattern p b.counts) bins
+  pub used : AllByRecursion (λ b. 1 ≤ b.times) bins
   pub total : times_of bins ≡ z
   pub covers : (i : ℕ) → 1 ≤ i → i ≤ length p.orders → entry (demands p.orders) i ≤ copies_in bins i

@@ -2,7 +2,7 @@
 use Rattle.std.proofs.Common.{◌≡◌, ℕ, ◌+◌, ◌≤◌, true, false, List, [], ◌∷◌, ◌++◌, map, length, drop, Ok, codes, decimal, sym, refl, ap, ◌∙◌, subst, ⊎_elim, append_assoc, append-nil, arith, length-append}
 use lib.ListN.{length-map}
 use lib.Seq.{drop-append_seam}
-use Rattle.std.specs.List.{AllByRecursion as All}
+use Rattle.std.specs.List.{AllByRecursion}
 use Rattle.std.specs.Str.{bytes_eq}
 use Rattle.std.proofs.ByRecursion.{All-append, All-map, All-weaker}
 use Rattle.std.proofs.lemmas.Slice.Eq.{bytes_eq-Decides}
@@ -20,15 +20,15 @@ use Rattle.texts.proofs.Written.{Clean, words_spaced, spaced_line, line_printabl
 number_back : (low high line k n : ℕ) (ws : List (List ℕ)) → Within low high n → n ≤ 1000000000 → number_at low high line k (decimal n ∷ ws) ≡ Ok n
 number_back low high line k n ws w h = ap (number_in low high line k) (decimal_form n h) ∙ cond-true _ _ _ (and_from _ _ (le-leb low n w.0) (le-leb n high w.1))
 
-just_all : (ws : List (List ℕ)) → All Clean ws → just (length ws) ws ≡ true
+just_all : (ws : List (List ℕ)) → AllByRecursion Clean ws → just (length ws) ws ≡ true
 just_all [] a = refl
 just_all ([] ∷ ws) a = absurd (omega (arith, a.0.size.0))
 just_all ((b ∷ w) ∷ ws) a = just_all ws a.1
 
-shape_back : (line n : ℕ) (ws : List (List ℕ)) → All Clean ws → length ws ≡ n → shape line n ws ≡ Ok tt
+shape_back : (line n : ℕ) (ws : List (List ℕ)) → AllByRecursion Clean ws → length ws ≡ n → shape line n ws ≡ Ok tt
 shape_back line n ws a e = cond-true _ _ _ (ap (λ k. just k ws) (sym e) ∙ just_all ws a)
 
-numbers_back : (line k : ℕ) (xs : List ℕ) (rest : List (List ℕ)) (ys : List ℕ) → All (Within 0 1000000000) xs → numbers_at line k (length xs) (map decimal xs ++ rest) ys ≡ Ok (ys ++ xs)
+numbers_back : (line k : ℕ) (xs : List ℕ) (rest : List (List ℕ)) (ys : List ℕ) → AllByRecursion (Within 0 1000000000) xs → numbers_at line k (length xs) (map decimal xs ++ rest) ys ≡ Ok (ys ++ xs)
 unfolding numbers_at
 numbers_back line k [] rest ys a = ap Ok (sym (append-nil ys))
 numbers_back line k (x ∷ xs) rest ys a =
@@ -38,17 +38,17 @@ pub sole_back : (low high line k n : ℕ) → Within low high n → n ≤ 100000
 sole_back low high line k n w h =
     ap (λ r. and_then r (λ _. number_at low high line k (decimal n ∷ []))) (shape_back line 1 (decimal n ∷ []) (decimal_clean n h, tt) refl) ∙ number_back low high line k n [] w h
 
-pub decimals_clean : (xs : List ℕ) → All (Within 0 1000000000) xs → All Clean (map decimal xs)
+pub decimals_clean : (xs : List ℕ) → AllByRecursion (Within 0 1000000000) xs → AllByRecursion Clean (map decimal xs)
 decimals_clean xs a = All-map Clean decimal xs (All-weaker (Within 0 1000000000) (λ n. Clean (decimal n)) (λ n w. decimal_clean n w.1) xs a)
 
-four_back : (line k : ℕ) (xs : List ℕ) → length xs ≡ 4 → All (Within 0 1000000000) xs → four_numbers line k (map decimal xs) ≡ Ok xs
+four_back : (line k : ℕ) (xs : List ℕ) → length xs ≡ 4 → AllByRecursion (Within 0 1000000000) xs → four_numbers line k (map decimal xs) ≡ Ok xs
 four_back line k xs e a =
     ap (λ r. and_then r (λ _. numbers_at line k 4 (map decimal xs) [])) (shape_back line 4 (map decimal xs) (decimals_clean xs a) (length-map xs decimal ∙ e)) ∙ ap (λ n. numbers_at line k n (map decimal xs) []) (sym e) ∙ ap (λ ws. numbers_at line k (length xs) ws []) (sym (append-nil (map decimal xs))) ∙ numbers_back line k xs [] [] a
 
 -- Lines
 
 -- a line that was written is read as its words
-pub line_back : {A : Type 0} (f : List (List ℕ) → Read A) (line : ℕ) (ws : List (List ℕ)) (ls : List (List ℕ)) → 1 ≤ length ws → All Clean ws → and_then (line_at line (spaced ws ∷ ls)) (λ x. f (words x)) ≡ f ws
+pub line_back : {A : Type 0} (f : List (List ℕ) → Read A) (line : ℕ) (ws : List (List ℕ)) (ls : List (List ℕ)) → 1 ≤ length ws → AllByRecursion Clean ws → and_then (line_at line (spaced ws ∷ ls)) (λ x. f (words x)) ≡ f ws
 line_back f line [] ls h a = absurd (omega arith)
 line_back f line (w ∷ ws) ls h a =
     ap (λ r. and_then r (λ x. f (words x))) (cond-true _ _ _ (line_printable (spaced (w ∷ ws)) (spaced_line (w ∷ ws) a))) ∙ ap f (words_spaced w ws a)
@@ -73,7 +73,7 @@ item_steps : (n line : ℕ) (names ws : List (List ℕ)) (name xs : List ℕ) (d
     item_of n line names ws ≡ Ok (record { name = name; line = line; fields = xs; demand = d })
 item_steps n line names ws name xs d e₁ e₂ e₃ e₄ = rw (e₁, e₂, e₃, e₄)
 
-pub item_clean : (n : ℕ) (e : Entry) → Item n e → All Clean (item_words e)
+pub item_clean : (n : ℕ) (e : Entry) → Item n e → AllByRecursion Clean (item_words e)
 item_clean n e i =
     (record { size = i.name.size; bytes = i.name.bytes }, All-append Clean (map decimal e.fields) (decimal e.demand ∷ []) (decimals_clean e.fields i.values) (decimal_clean e.demand (omega (arith, i.demand.1)), tt))
 
@@ -90,7 +90,7 @@ item_back n line names e i new at =
     item_steps n line names (item_words e) e.name e.fields e.demand (shape_back line (n + 2) (item_words e) (item_clean n e i) (item_size n e i)) (name_back line 1 names e.name (ws ++ demand) i.name new) values (ap (number_at 1 4095 line (n + 2)) last ∙ number_back 1 4095 line (n + 2) e.demand [] i.demand (omega (arith, i.demand.1))) ∙ ap (λ l. Ok (record { name = e.name; line = l; fields = e.fields; demand = e.demand })) (sym at)
 
 -- a name is none of those before it
-named : (es : List Entry) (e : Entry) (rest : List Entry) (P : List ℕ → Type 0) → All P (names_of (es ++ e ∷ rest)) → P e.name
+named : (es : List Entry) (e : Entry) (rest : List Entry) (P : List ℕ → Type 0) → AllByRecursion P (names_of (es ++ e ∷ rest)) → P e.name
 named [] e rest P a = a.0
 named (d ∷ es) e rest P a = named es e rest P a.1
 
@@ -101,7 +101,7 @@ new_name (d ∷ es) e rest a =
     let differ : bytes_eq d.name e.name ≡ false = ⊎_elim (λ t. absurd (apart (sym ((bytes_eq-Decides d.name e.name).0 t)))) (λ f. f) (cases_Bool (bytes_eq d.name e.name)) in
     or_from _ _ differ (new_name es e rest a.1)
 
-pub items_back : (n from : ℕ) (es all : List Entry) → All (Item n) es → OnLines from es → Distinct (names_of (all ++ es)) → items_at n from (length es) (map spaced (map item_words es)) all ≡ Ok (all ++ es)
+pub items_back : (n from : ℕ) (es all : List Entry) → AllByRecursion (Item n) es → OnLines from es → Distinct (names_of (all ++ es)) → items_at n from (length es) (map spaced (map item_words es)) all ≡ Ok (all ++ es)
 unfolding items_at
 items_back n from [] all i o d = ap Ok (sym (append-nil all))
 items_back n from (e ∷ es) all i o d =

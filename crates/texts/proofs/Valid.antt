@@ -1,6 +1,6 @@
 -- What a text spells is valid.
 use Rattle.std.proofs.Common.{◌≡◌, ℕ, zero, suc, ◌+◌, ◌-◌, Bool, true, false, cond, ◌&&◌, eqb, leb, List, [], ◌∷◌, ◌++◌, length, drop, Some, None, Ok, Err, Option, sym, refl, ap, ◌∙◌, subst, arith, length-append}
-use Rattle.std.specs.List.{AllByRecursion as All}
+use Rattle.std.specs.List.{AllByRecursion}
 use Rattle.std.specs.Str.{bytes_eq}
 use Rattle.std.proofs.ByRecursion.{All-push}
 use Rattle.std.proofs.lemmas.Slice.Eq.{bytes_eq-Decides}
@@ -49,9 +49,9 @@ sole_within low high line k ws n h =
     let t = taken (shape line 1 ws) (λ _. number_at low high line k ws) n h in
     number_at_within low high line k ws n t.2
 
-pub numbers_within : (line k n : ℕ) (ws : List (List ℕ)) (xs ys : List ℕ) → numbers_at line k n ws xs ≡ Ok ys → All (Within 0 1000000000) xs → (length ys ≡ length xs + n) × All (Within 0 1000000000) ys
+pub numbers_within : (line k n : ℕ) (ws : List (List ℕ)) (xs ys : List ℕ) → numbers_at line k n ws xs ≡ Ok ys → AllByRecursion (Within 0 1000000000) xs → (length ys ≡ length xs + n) × AllByRecursion (Within 0 1000000000) ys
 unfolding numbers_at
-numbers_within line k zero ws xs ys h a = let e : xs ≡ ys = cc in (omega (arith, ap length e), subst (All (Within 0 1000000000)) e a)
+numbers_within line k zero ws xs ys h a = let e : xs ≡ ys = cc in (omega (arith, ap length e), subst (AllByRecursion (Within 0 1000000000)) e a)
 numbers_within line k (suc n) ws xs ys h a =
     let t = taken (number_at 0 1000000000 line k ws) (λ x. numbers_at line (k + 1) n (drop 1 ws) (xs ++ x ∷ [])) ys h in
     let on = numbers_within line (k + 1) n (drop 1 ws) (xs ++ t.0 ∷ []) ys t.2 (All-push (Within 0 1000000000) xs t.0 a (number_at_within 0 1000000000 line k ws t.0 t.1)) in
@@ -59,18 +59,18 @@ numbers_within line k (suc n) ws xs ys h a =
 
 -- Names
 
-all_onto : (b : ℕ) (ws : List (List ℕ)) → Within 33 126 b → All (All (Within 33 126)) ws → All (All (Within 33 126)) (onto b ws)
+all_onto : (b : ℕ) (ws : List (List ℕ)) → Within 33 126 b → AllByRecursion (AllByRecursion (Within 33 126)) ws → AllByRecursion (AllByRecursion (Within 33 126)) (onto b ws)
 all_onto b [] p a = ((p, tt), tt)
 all_onto b (w ∷ ws) p a = ((p, a.0), a.1)
 
-words_printable : (x : List ℕ) → printable x ≡ true → All (All (Within 33 126)) (words x)
+words_printable : (x : List ℕ) → printable x ≡ true → AllByRecursion (AllByRecursion (Within 33 126)) (words x)
 unfolding words
 words_printable [] h = (tt, tt)
 words_printable (b ∷ bs) h =
     let p = and_parts (prints_of b) (printable bs) h in
     let q = and_parts (leb 32 b) (leb b 126) p.0 in
     let on = words_printable bs p.1 in
-    cond_both (eqb b 32) ([] ∷ words bs) (onto b (words bs)) (All (All (Within 33 126))) (λ e. (tt, on)) (λ e.
+    cond_both (eqb b 32) ([] ∷ words bs) (onto b (words bs)) (AllByRecursion (AllByRecursion (Within 33 126))) (λ e. (tt, on)) (λ e.
     let low = leb-true 32 b q.0 in
     let high = leb-true b 126 q.1 in
     let other = eqb-false b 32 e in
@@ -82,7 +82,7 @@ line_printable line (y ∷ ys) x h =
     let p = passed (printable y) y _ x h in
     ap printable (sym p.1) ∙ p.0
 
-name_valid : (line k : ℕ) (names ws : List (List ℕ)) (w : List ℕ) → name_at line k names ws ≡ Ok w → All (All (Within 33 126)) ws → Name w × (known w names ≡ false)
+name_valid : (line k : ℕ) (names ws : List (List ℕ)) (w : List ℕ) → name_at line k names ws ≡ Ok w → AllByRecursion (AllByRecursion (Within 33 126)) ws → Name w × (known w names ≡ false)
 name_valid line k names [] w h a = absurd (ok_not _ w h)
 name_valid line k names (v ∷ ws) w h a =
     let p = passed (good_name names v) v _ w h in
@@ -91,19 +91,19 @@ name_valid line k names (v ∷ ws) w h a =
     let t = and_parts _ _ r.0 in
     subst (λ x. Name x × (known x names ≡ false)) p.1 (record { size = (leb-true 1 (length v) t.0, leb-true (length v) 16 t.1); bytes = a.0; first = not-true _ r.1 }, not-true _ q.1)
 
-unknown : (w : List ℕ) (names : List (List ℕ)) → known w names ≡ false → All (λ v. v ≡ w → ⊥) names
+unknown : (w : List ℕ) (names : List (List ℕ)) → known w names ≡ false → AllByRecursion (λ v. v ≡ w → ⊥) names
 unknown w [] h = tt
 unknown w (v ∷ names) h =
     let p = or_parts (bytes_eq v w) (known w names) h in
     (λ e. both_ways (bytes_eq v w) p.0 ((bytes_eq-Decides v w).1 e), unknown w names p.1)
 
-distinct_push : (ws : List (List ℕ)) (w : List ℕ) → Distinct ws → All (λ v. v ≡ w → ⊥) ws → Distinct (ws ++ w ∷ [])
+distinct_push : (ws : List (List ℕ)) (w : List ℕ) → Distinct ws → AllByRecursion (λ v. v ≡ w → ⊥) ws → Distinct (ws ++ w ∷ [])
 distinct_push [] w d a = (tt, tt)
 distinct_push (v ∷ ws) w d a = (All-push (λ u. u ≡ v → ⊥) ws w d.0 (λ e. a.0 (sym e)), distinct_push ws w d.1 a.1)
 
 -- Items
 
-item_of_valid : (n line : ℕ) (names ws : List (List ℕ)) (e : Entry) → item_of n line names ws ≡ Ok e → All (All (Within 33 126)) ws → Item n e × (known e.name names ≡ false) × (e.line ≡ line)
+item_of_valid : (n line : ℕ) (names ws : List (List ℕ)) (e : Entry) → item_of n line names ws ≡ Ok e → AllByRecursion (AllByRecursion (Within 33 126)) ws → Item n e × (known e.name names ≡ false) × (e.line ≡ line)
 item_of_valid n line names ws e h a =
     let t₁ = taken (shape line (n + 2) ws) _ e h in
     let t₂ = taken (name_at line 1 names ws) _ e t₁.2 in
@@ -127,7 +127,7 @@ on_lines_push from (d ∷ es) e o h = (o.0, on_lines_push (from + 1) es e o.1 (o
 
 -- the items that are read so far, from a line on
 record So (n from : ℕ) (es : List Entry) : Type 0 where
-  items : All (Item n) es
+  items : AllByRecursion (Item n) es
   names : Distinct (names_of es)
   lines : OnLines from es
 

@@ -1,7 +1,7 @@
 -- Lines and words of a written text.
 use Rattle.std.proofs.Common.{◌≡◌, ℕ, zero, suc, ◌<◌, ◌≤◌, true, false, eqb, leb, List, [], ◌∷◌, ◌++◌, map, length, get_or, Some, decimal, refl, ap, ◌∙◌, arith, rules}
 use Rattle.std.specs.Char.{is_ascii_digit, is_ascii_alphabetic}
-use Rattle.std.specs.List.{AllByRecursion as All}
+use Rattle.std.specs.List.{AllByRecursion}
 use Rattle.std.proofs.lemmas.Fmt.{decimal_digit, digits_decimal, digits_value-decimal, first_decimal, length-decimal-le, decimal_nonempty}
 use Rattle.std.proofs.lemmas.Str.Parse.{IsNumeralModel, numerals_by_fold}
 use Rattle.std.proofs.lemmas.Bool.{and_parts, and_from, le-leb, ne_eqb, leb-true, not_from_false, both_ways, cond-true, cond-false}
@@ -15,7 +15,7 @@ use Rattle.texts.specs.Written.{spaced, text_of}
 -- a word of a text: 1 to 16 printable bytes other than space
 pub record Clean (w : List ℕ) : Type 0 where
   pub size : Within 1 16 (length w)
-  pub bytes : All (Within 33 126) w
+  pub bytes : AllByRecursion (Within 33 126) w
 
 other : (low b mark : ℕ) → low ≤ b → mark < low → eqb b mark ≡ false
 other low b mark h l = ne_eqb b mark (λ e. omega arith)
@@ -23,17 +23,17 @@ other low b mark h l = ne_eqb b mark (λ e. omega arith)
 -- The words of a line
 
 -- a word, and the words after it
-first_word : (w : List ℕ) (rest : List ℕ) → All (Within 33 126) w → words (w ++ 32 ∷ rest) ≡ w ∷ words rest
+first_word : (w : List ℕ) (rest : List ℕ) → AllByRecursion (Within 33 126) w → words (w ++ 32 ∷ rest) ≡ w ∷ words rest
 unfolding words
 first_word [] rest a = refl
 first_word (b ∷ w) rest a = cond-false _ _ _ (other 33 b 32 a.0.0 (omega arith)) ∙ ap (onto b) (first_word w rest a.1)
 
-last_word : (w : List ℕ) → All (Within 33 126) w → words w ≡ w ∷ []
+last_word : (w : List ℕ) → AllByRecursion (Within 33 126) w → words w ≡ w ∷ []
 unfolding words
 last_word [] a = refl
 last_word (b ∷ w) a = cond-false _ _ _ (other 33 b 32 a.0.0 (omega arith)) ∙ ap (onto b) (last_word w a.1)
 
-pub words_spaced : (w : List ℕ) (ws : List (List ℕ)) → All Clean (w ∷ ws) → words (spaced (w ∷ ws)) ≡ w ∷ ws
+pub words_spaced : (w : List ℕ) (ws : List (List ℕ)) → AllByRecursion Clean (w ∷ ws) → words (spaced (w ∷ ws)) ≡ w ∷ ws
 words_spaced w [] a = last_word w a.0.bytes
 words_spaced w (v ∷ ws) a = first_word w (spaced (v ∷ ws)) a.0.bytes ∙ ap (λ l. w ∷ l) (words_spaced v ws a.1)
 
@@ -41,17 +41,17 @@ words_spaced w (v ∷ ws) a = first_word w (spaced (v ∷ ws)) a.0.bytes ∙ ap 
 
 -- bytes that may stand in a line
 abbrev Line : List ℕ → Type 0
-Line x = All (Within 32 126) x
+Line x = AllByRecursion (Within 32 126) x
 
 line_append : (x y : List ℕ) → Line x → Line y → Line (x ++ y)
 line_append [] y a b = b
 line_append (c ∷ x) y a b = (a.0, line_append x y a.1 b)
 
-word_line : (w : List ℕ) → All (Within 33 126) w → Line w
+word_line : (w : List ℕ) → AllByRecursion (Within 33 126) w → Line w
 word_line [] a = tt
 word_line (b ∷ w) a = ((omega (arith, a.0.0), a.0.1), word_line w a.1)
 
-pub spaced_line : (ws : List (List ℕ)) → All Clean ws → Line (spaced ws)
+pub spaced_line : (ws : List (List ℕ)) → AllByRecursion Clean ws → Line (spaced ws)
 spaced_line [] a = tt
 spaced_line (w ∷ []) a = word_line w a.0.bytes
 spaced_line (w ∷ v ∷ ws) a = line_append w (32 ∷ spaced (v ∷ ws)) (word_line w a.0.bytes) ((omega arith, omega arith), spaced_line (v ∷ ws) a.1)
@@ -65,7 +65,7 @@ unfolding lines
 first_line [] rest a = refl
 first_line (b ∷ x) rest a = cond-false _ _ _ (other 32 b 10 a.0.0 (omega arith)) ∙ ap (onto b) (first_line x rest a.1)
 
-pub lines_text : (ls : List (List (List ℕ))) → All (All Clean) ls → lines (text_of ls) ≡ map spaced ls
+pub lines_text : (ls : List (List (List ℕ))) → AllByRecursion (AllByRecursion Clean) ls → lines (text_of ls) ≡ map spaced ls
 unfolding lines
 lines_text [] a = refl
 lines_text (ws ∷ ls) a = first_line (spaced ws) (text_of ls) (spaced_line ws a.0) ∙ ap (λ l. spaced ws ∷ l) (lines_text ls a.1)
@@ -92,7 +92,7 @@ no_zero [] l h = absurd (omega arith)
 no_zero (b ∷ []) l h = refl
 no_zero (b ∷ c ∷ bs) l h = not_from_false _ (ne_eqb b 48 (λ e. omega arith))
 
-digits_bytes : (bs : List ℕ) → all_digits bs ≡ true → All (Within 33 126) bs
+digits_bytes : (bs : List ℕ) → all_digits bs ≡ true → AllByRecursion (Within 33 126) bs
 digits_bytes [] d = tt
 digits_bytes (b ∷ bs) d =
     let p = and_parts (is_ascii_digit b) (all_digits bs) d in

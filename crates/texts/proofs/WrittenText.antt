@@ -2,7 +2,7 @@
 use Rattle.std.proofs.Common.{◌≡◌, ℕ, suc, ◌+◌, ◌-◌, ◌*◌, ◌≤◌, List, [], ◌∷◌, ◌++◌, map, length, get_or, drop, Some, None, Ok, codes, decimal, Option, refl, ap, ◌∙◌, arith, length-append, get_or-append-add}
 use lib.ListN.{length-map}
 use lib.Seq.{get_or-append_seam}
-use Rattle.std.specs.List.{AllByRecursion as All}
+use Rattle.std.specs.List.{AllByRecursion}
 use Rattle.std.proofs.ByRecursion.{All-map, All-weaker}
 use Rattle.std.proofs.lemmas.List.{drop_all}
 use Rattle.std.proofs.lemmas.Bool.{and_from, le-leb, eq-eqb, cond-true}
@@ -20,7 +20,7 @@ use Rattle.texts.proofs.ReadBack.{sole_back, decimals_clean, line_back, base_bac
 record Good (ws : List (List ℕ)) : Type 0 where
   some : 1 ≤ length ws
   few : length ws ≤ 6
-  clean : All Clean ws
+  clean : AllByRecursion Clean ws
 
 letter_clean : (b : ℕ) → Within 33 126 b → Clean (b ∷ [])
 letter_clean b w = record { size = (omega arith, omega arith); bytes = (w, tt) }
@@ -49,10 +49,10 @@ item_good b e i =
     let few = fields_few b in
     record { some = omega arith; few = omega arith; clean = item_clean (field_count_of b) e i }
 
-items_good : (b : Base) (es : List Entry) → All (Item (field_count_of b)) es → All Good (map item_words es)
+items_good : (b : Base) (es : List Entry) → AllByRecursion (Item (field_count_of b)) es → AllByRecursion Good (map item_words es)
 items_good b es a = All-map Good item_words es (All-weaker (Item (field_count_of b)) (λ e. Good (item_words e)) (item_good b) es a)
 
-lines_good : (b : Base) (o : Option ℕ) (es : List Entry) → Limit b → CountLimit o → length es ≤ 64 → All (Item (field_count_of b)) es → All Good (lines_of (record { limits = record { base = b; count = o }; items = es }))
+lines_good : (b : Base) (o : Option ℕ) (es : List Entry) → Limit b → CountLimit o → length es ≤ 64 → AllByRecursion (Item (field_count_of b)) es → AllByRecursion Good (lines_of (record { limits = record { base = b; count = o }; items = es }))
 lines_good b None es l c n i =
     let m = length-map es item_words in
     (number_good 1 (omega arith), (base_good b l, (number_good (length (map item_words es)) (omega arith), items_good b es i)))
@@ -66,12 +66,12 @@ lines_few b (Some k) es n = omega (arith, length-map es item_words)
 
 -- A text of good lines is well formed
 
-spaced_length : (ws : List (List ℕ)) → All Clean ws → length (spaced ws) ≤ 17 * length ws
+spaced_length : (ws : List (List ℕ)) → AllByRecursion Clean ws → length (spaced ws) ≤ 17 * length ws
 spaced_length [] a = omega arith
 spaced_length (w ∷ []) a = omega (arith, a.0.size.1)
 spaced_length (w ∷ v ∷ ws) a = omega (arith, a.0.size.1, length-append w (32 ∷ spaced (v ∷ ws)), spaced_length (v ∷ ws) a.1)
 
-text_length : (ls : List (List (List ℕ))) → All Good ls → length (text_of ls) ≤ 103 * length ls
+text_length : (ls : List (List (List ℕ))) → AllByRecursion Good ls → length (text_of ls) ≤ 103 * length ls
 text_length [] a = omega arith
 text_length (ws ∷ ls) a = omega (arith, a.0.few, length-append (spaced ws) (10 ∷ text_of ls), spaced_length ws a.0.clean, text_length ls a.1)
 
@@ -87,7 +87,7 @@ text_ends ws (vs ∷ ls) =
     let last : length (spaced ws ++ 10 ∷ rest) - 1 ≡ length (spaced ws) + suc (length rest - 1) = omega (arith, length-append (spaced ws) (10 ∷ rest), text_some vs ls) in
     ap (λ i. get_or (spaced ws ++ 10 ∷ rest) i 0) last ∙ get_or-append-add (spaced ws) (10 ∷ rest) (suc (length rest - 1)) 0 ∙ text_ends vs ls
 
-text_formed : (ws : List (List ℕ)) (ls : List (List (List ℕ))) → All Good (ws ∷ ls) → length (ws ∷ ls) ≤ 68 → formed (text_of (ws ∷ ls)) ≡ Ok tt
+text_formed : (ws : List (List ℕ)) (ls : List (List (List ℕ))) → AllByRecursion Good (ws ∷ ls) → length (ws ∷ ls) ≤ 68 → formed (text_of (ws ∷ ls)) ≡ Ok tt
 text_formed ws ls a h =
     let text = text_of (ws ∷ ls) in
     cond-true _ _ _ (and_from _ _ (and_from _ _ (le-leb 1 (length text) (text_some ws ls)) (le-leb (length text) 65536 (omega (arith, text_length (ws ∷ ls) a)))) (eq-eqb _ 10 (text_ends ws ls)))
@@ -101,7 +101,7 @@ section_back n part follows l ls a e = ap (λ r. and_then r (λ x. follows x (l 
 count_back : (low high line n : ℕ) (ls : List (List ℕ)) → Within low high n → n ≤ 1000000000 → count_at low high line (spaced (decimal n ∷ []) ∷ ls) ≡ Ok n
 count_back low high line n ls w h = line_back (sole_number low high line 1) line (decimal n ∷ []) ls (omega arith) (decimal_clean n h, tt) ∙ sole_back low high line 1 n w h
 
-items_section_back : (b : Base) (o : Option ℕ) (es : List Entry) (l : ℕ) → first_item o ≡ l + 2 → Within 1 64 (length es) → All (Item (field_count_of b)) es → OnLines (first_item o) es → Distinct (names_of es) →
+items_section_back : (b : Base) (o : Option ℕ) (es : List Entry) (l : ℕ) → first_item o ≡ l + 2 → Within 1 64 (length es) → AllByRecursion (Item (field_count_of b)) es → OnLines (first_item o) es → Distinct (names_of es) →
     items_section b o l (map spaced (counted (map item_words es))) ≡ Ok (record { limits = record { base = b; count = o }; items = es })
 items_section_back b o es l first size items lines names =
     let ls = map spaced (map item_words es) in
@@ -130,5 +130,5 @@ unfolding reads written
 reads_written s v =
     let good = lines_good s.limits.base s.limits.count s.items v.limit v.count_limit v.size.1 v.items in
     let few = lines_few s.limits.base s.limits.count s.items v.size.1 in
-    let clean = All-weaker Good (All Clean) (λ ws g. g.clean) (lines_of s) good in
+    let clean = All-weaker Good (AllByRecursion Clean) (λ ws g. g.clean) (lines_of s) good in
     ap (λ r. and_then r (λ _. sections 0 (lines (text_of (lines_of s))))) (text_formed _ _ good few) ∙ ap (sections 0) (lines_text (lines_of s) clean) ∙ sections_back s.limits.base s.limits.count s.items v
