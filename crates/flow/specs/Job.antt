@@ -1,5 +1,5 @@
 -- A job and its calls: what each answers, when it refuses, and what it leaves.
-use Rattle.std.specs.Prelude.{ℕ, suc, ◌+◌, ◌-◌, ◌*◌, min, Bool, false, cond, not, ◌&&◌, ◌||◌, ltb, List, [], ◌∷◌, length, replicate, is_some, Some, None, Option, ◌==◌, nat_le, nat_lt, slice_set}
+use Rattle.std.specs.Prelude.{ℕ, suc, ◌+◌, ◌-◌, ◌*◌, min, Bool, false, cond, not, ◌&&◌, ◌||◌, List, [], ◌∷◌, length, replicate, is_some, Some, None, Option, ◌==◌, nat_le, nat_lt, slice_set}
 use Rattle.limits.specs.Meaning.{Meaning}
 use Rattle.refusal.specs.declared.Refusal.{Refusal}
 use Rattle.refusal.specs.declared.Refusal.TheVariants.{WrongState, BadItem, TooManyNodes, CarriesFlow, Absent, FlowOutOfRange, NoPattern, ArcOverLimit, Unbalanced, ValueOverLimit, BelowDemand, NothingLeft, TooLittleMemory}
@@ -95,7 +95,7 @@ lowest p n = first (numbers p n)
 
 -- the lowest arc that carries flow
 abbrev pub loaded : Content → Option ℕ
-loaded j = lowest (λ a. ltb 0 (on j.flow a)) (2 * length j.graph)
+loaded j = lowest (λ a. nat_lt 0 (on j.flow a)) (2 * length j.graph)
 
 -- the lowest node, but for source and target, whose inflow is not its outflow
 abbrev pub unbalanced : Content → Option ℕ
@@ -103,7 +103,7 @@ unbalanced j = lowest (λ v. nat_lt 0 v && not (inflow j.graph j.flow v == outfl
 
 -- the lowest item with fewer copies than its demand
 abbrev pub lacking : Content → Option ℕ
-lacking j = lowest (λ i. ltb (copies_of j.graph j.flow i) (entry j.demands i)) (suc (length j.demands))
+lacking j = lowest (λ i. nat_lt (copies_of j.graph j.flow i) (entry j.demands i)) (suc (length j.demands))
 
 -- the arcs of the path that spells these counts, one an item
 abbrev pub path_of : Content → List ℕ → Option (List ℕ)

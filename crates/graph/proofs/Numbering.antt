@@ -8,7 +8,7 @@ use Rattle.std.proofs.lemmas.Bool.{ltb-true, lt-ltb, cases_lt}
 use Rattle.limits.specs.Meaning.{Meaning}
 use Rattle.packing.specs.Distinct.{same_list}
 use Rattle.packing.specs.Packing.{Item}
-use Rattle.packing.proofs.Distinct.{decides_same_list, has_distinct, has_get_d, index_lt, index_le, get_or_index, index_get_or}
+use Rattle.packing.proofs.Distinct.{decides_same_list, has_distinct, has_get_or, index_lt, index_le, get_or_index, index_get_or}
 use Rattle.packing.proofs.Options.{some≢none, unsome}
 use Rattle.graph.specs.declared.Row.{Row}
 use Rattle.graph.specs.Graph.{row, at, Layered}
@@ -128,7 +128,7 @@ module _ (k : Meaning) (items : List Item) where
           moved i c (get_or (station i c) j []) (record {
             known = hi;
             within = in_Item.2;
-            held = has_get_d same_list decides_same_list (station i c) j [] in_Item.3;
+            held = has_get_or same_list decides_same_list (station i c) j [] in_Item.3;
             is = omega (arith, is, in_Item.4, once i c j hi in_Item.3);
           })
 
@@ -203,7 +203,7 @@ module _ (k : Meaning) (items : List Item) where
         known = hi;
         within = omega arith;
         held = ap (holds a) (entering_more k items source_stage i s.known) ∙ has_distinct same_list decides_same_list a (all_of i)
-            ∙ subst (λ (z : List ℕ). holds z (all_of i) ≡ true) p.3 (has_get_d same_list decides_same_list (all_of i) p.0 [] p.1);
+            ∙ subst (λ (z : List ℕ). holds z (all_of i) ≡ true) p.3 (has_get_or same_list decides_same_list (all_of i) p.0 [] p.1);
         is = refl;
       }
 
@@ -264,7 +264,7 @@ module _ (k : Meaning) (items : List Item) where
       (subst (λ (l : List (List ℕ)). holds a l ≡ true) (stage_more k (weight i) c (entering k source_stage items i)) s.held) in
       let b = get_or (station i c) from.0 [] in
       let before : Seat i c b (number i c b) =
-      record { known = s.known; within = omega (arith, s.within); held = has_get_d same_list decides_same_list (station i c) from.0 [] from.1; is = refl } in
+      record { known = s.known; within = omega (arith, s.within); held = has_get_or same_list decides_same_list (station i c) from.0 [] from.1; is = refl } in
       (number i c b, inl (take_at i c (number i c b) b a before s.within from.2 from.3 ∙ ap Some (sym s.is)))
   arc_to (suc i) zero t a s pos =
       let held : holds a (all_of i) ≡ true =
@@ -315,7 +315,7 @@ module _ (k : Meaning) (items : List Item) where
       (subst (λ (z : List ℕ). place x (station i (suc c)) < place z (station i (suc c))) (sym sum) less)) in
       let b = get_or l first.0 [] in
       let hb : first.0 < length l = omega (arith, first.1, hj) in
-      let u : Seat i c b (number i c b) = record { known = hv.known; within = hv.within; held = has_get_d same_list decides_same_list l first.0 [] hb; is = refl } in (
+      let u : Seat i c b (number i c b) = record { known = hv.known; within = hv.within; held = has_get_or same_list decides_same_list l first.0 [] hb; is = refl } in (
         number i c b,
         omega (arith, hv.is, first.1, index_le same_list decides_same_list b l first.0 [] hb refl),
         inl (take_at i c (number i c b) b x u back.0 first.2 first.3 ∙ ap Some (sym hs.is)),

@@ -10,7 +10,7 @@ use Rattle.packing.specs.Distinct.{has, index, distinct}
 use Rattle.graph.specs.Graph.{row, blank, at, Layered}
 use Rattle.graph.specs.Reduced.{led, class, classes, renumbered, reduced}
 use Rattle.graph.specs.Laws.{Joins, Reduces}
-use Rattle.packing.proofs.Distinct.{same_self, index_lt, index_le, index_append, index_new, get_or_index, has_distinct, has_get_d, has_none, index_get_or, distinct_push, distinct_order, noted_all_keeps}
+use Rattle.packing.proofs.Distinct.{same_self, index_lt, index_le, index_append, index_new, get_or_index, has_distinct, has_get_or, has_none, index_get_or, distinct_push, distinct_order, noted_all_keeps}
 use Rattle.packing.proofs.Options.{some≢none, unsome}
 use Rattle.graph.proofs.Paths.{given, accepts_item, accepts, path_accepts, accepts_path}
 use Rattle.graph.proofs.Joined.{led_led, led_same, Ahead, all_joined, all_found, length_classes}
@@ -96,7 +96,7 @@ module _ (m : ℕ) (g : List Row) (st : Layered m g) where
       }
 
   has_class : (t : ℕ) → t < length g → has eqb (class_of t) cs ≡ true
-  has_class t lt = rw (class_is t 0 lt) (has_get_d eqb Decides-eqb cs t 0 (omega (arith, length_classes 0 g)))
+  has_class t lt = rw (class_is t 0 lt) (has_get_or eqb Decides-eqb cs t 0 (omega (arith, length_classes 0 g)))
 
   has_new : (t : ℕ) → t < length g → has eqb (class_of t) ds ≡ true
   has_new t lt = has_distinct eqb Decides-eqb (class_of t) cs ∙ has_class t lt
@@ -178,7 +178,7 @@ module _ (m : ℕ) (g : List Row) (st : Layered m g) where
     new_inner n lt =
         let here : has eqb (class_of n) (distinct eqb front) ≡ true =
         has_distinct eqb Decides-eqb (class_of n) front
-        ∙ subst (λ (c : ℕ). has eqb c front ≡ true) (front_is n lt) (has_get_d eqb Decides-eqb front n 0 (omega (arith, long))) in
+        ∙ subst (λ (c : ℕ). has eqb c front ≡ true) (front_is n lt) (has_get_or eqb Decides-eqb front n 0 (omega (arith, long))) in
         let place : new n ≡ index eqb (class_of n) (distinct eqb front) =
         ap (index eqb (class_of n)) ds_is ∙ index_append eqb (class_of n) (distinct eqb front) (t ∷ []) here in
         omega (arith, length_ds, place, index_lt eqb (class_of n) (distinct eqb front) here)
@@ -214,7 +214,7 @@ module _ (m : ℕ) (g : List Row) (st : Layered m g) where
   old n lt =
       let in_ds : n < length ds = rw length_reduced at lt in
       let u = get_or ds n 0 in
-      let in_cs : has eqb u cs ≡ true = sym (has_distinct eqb Decides-eqb u cs) ∙ has_get_d eqb Decides-eqb ds n 0 in_ds in
+      let in_cs : has eqb u cs ≡ true = sym (has_distinct eqb Decides-eqb u cs) ∙ has_get_or eqb Decides-eqb ds n 0 in_ds in
       let j = index eqb u cs in
       let j_lt : j < length g = omega (arith, index_lt eqb u cs in_cs, length_classes 0 g) in
       let l = leader j j_lt in

@@ -6,7 +6,7 @@ use Rattle.std.proofs.lemmas.Bool.{false≢true, lt-ltb, le-ltb, cases_lt, cases
 use Rattle.limits.specs.Meaning.{Meaning}
 use Rattle.packing.specs.Distinct.{distinct, same_list}
 use Rattle.packing.specs.Packing.{Item}
-use Rattle.packing.proofs.Distinct.{decides_same_list, has_distinct, has_get_d, index_lt, index_append, index_new, get_or_index}
+use Rattle.packing.proofs.Distinct.{decides_same_list, has_distinct, has_get_or, index_lt, index_append, index_new, get_or_index}
 use Rattle.graph.specs.declared.Row.{Row}
 use Rattle.graph.specs.Graph.{row, blank, at}
 use Rattle.graph.specs.Compiled.{place, pass_end, row_taking, raised, layer, after, take_end, item_rows, rows_from, loads_from}
@@ -36,7 +36,7 @@ before_found x y t p more is hy lt = go (holds x p) refl
 held_take : (s : List (List ℕ)) (j : ℕ) → j < length s → holds (get_or s j []) (take (suc j) s) ≡ true
 held_take s j lt =
     subst (λ (z : List ℕ). holds z (take (suc j) s) ≡ true) (get_or-take (suc j) s j [] (omega arith))
-    (has_get_d same_list decides_same_list (take (suc j) s) j [] (omega (arith, length-take-le (suc j) s lt)))
+    (has_get_or same_list decides_same_list (take (suc j) s) j [] (omega (arith, length-take-le (suc j) s lt)))
 
 -- of a list without repetition, what stands before the element at j of the list first appears before it
 pub distinct_before : (x : List ℕ) (s : List (List ℕ)) (j : ℕ) → j < length s → place x (distinct same_list s) < place (get_or s j []) (distinct same_list s)

@@ -125,10 +125,10 @@ module _ {X : Type 0} (same : X → X → Bool) where
         go more true e = or_left (test (f x) (f y)) (has test (f x) (map f ys)) ((tells (f x) (f y)).1 (ap f ((decides x y).0 e)))
         go more false e = or_right (test (f x) (f y)) (has test (f x) (map f ys)) (more (rw e at h))
 
-    pub has_get_d : (xs : List X) (j : ℕ) (d : X) → j < length xs → has same (get_or xs j d) xs ≡ true
-    has_get_d [] j d lt = absurd (omega arith)
-    has_get_d (y ∷ ys) zero d lt = or_left (same y y) (has same y ys) (same_self y)
-    has_get_d (y ∷ ys) (suc j) d lt = or_right (same (get_or ys j d) y) (has same (get_or ys j d) ys) (has_get_d ys j d (omega arith))
+    pub has_get_or : (xs : List X) (j : ℕ) (d : X) → j < length xs → has same (get_or xs j d) xs ≡ true
+    has_get_or [] j d lt = absurd (omega arith)
+    has_get_or (y ∷ ys) zero d lt = or_left (same y y) (has same y ys) (same_self y)
+    has_get_or (y ∷ ys) (suc j) d lt = or_right (same (get_or ys j d) y) (has same (get_or ys j d) ys) (has_get_or ys j d (omega arith))
 
     -- an element's first place is no later than any other
     pub index_le : (x : X) (xs : List X) (j : ℕ) (d : X) → j < length xs → get_or xs j d ≡ x → index same x xs ≤ j
@@ -158,7 +158,7 @@ module _ {X : Type 0} (same : X → X → Bool) where
       where
         pushed : has same x seen ≡ false → (j : ℕ) (d : X) → (j < length seen) ⊎ (length seen ≡ j) → index same (get_or (seen ++ x ∷ []) j d) (seen ++ x ∷ []) ≡ j
         pushed e j d (inl lt) =
-            rw (get_or_append_left seen (x ∷ []) d j lt) (index_append (get_or seen j d) seen (x ∷ []) (has_get_d seen j d lt) ∙ once j d lt)
+            rw (get_or_append_left seen (x ∷ []) d j lt) (index_append (get_or seen j d) seen (x ∷ []) (has_get_or seen j d lt) ∙ once j d lt)
         pushed e j d (inr at) =
             rw (get_or_push seen x d j at) (index_new x seen (x ∷ []) e ∙ rw (same_self x) (omega arith))
 

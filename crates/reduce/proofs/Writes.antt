@@ -11,7 +11,7 @@ use Rattle.packing.specs.Distinct.{has, index, distinct, noted, noted_all}
 use Rattle.graph.specs.Graph.{blank, at, Layered}
 use Rattle.graph.specs.Laws.{Joins}
 use Rattle.graph.specs.Reduced.{led, classes, renumbered, reduced}
-use Rattle.packing.proofs.Distinct.{has_get_d, has_distinct, index_lt}
+use Rattle.packing.proofs.Distinct.{has_get_or, has_distinct, index_lt}
 use Rattle.graph.proofs.Joined.{led_same, all_joined, length_classes}
 use Rattle.graph.proofs.Reduce.{arcs_ahead, reduced_joins}
 use Rattle.graph.proofs.Steps.{place_found}
@@ -62,7 +62,7 @@ rank_le xs i lt =
     let long = length-take-le (i + 1) xs (omega arith) in
     let here : has eqb x (distinct eqb front) ≡ true =
     has_distinct eqb Decides-eqb x front
-    ∙ subst (λ (v : ℕ). has eqb v front ≡ true) (get_or-take (i + 1) xs i 0 (omega arith)) (has_get_d eqb Decides-eqb front i 0 (omega (arith, long))) in
+    ∙ subst (λ (v : ℕ). has eqb v front ≡ true) (get_or-take (i + 1) xs i 0 (omega arith)) (has_get_or eqb Decides-eqb front i 0 (omega (arith, long))) in
     omega (arith, place_found eqb x (i + 1) xs here, index_lt eqb x (distinct eqb front) here, distinct_le front, long)
 
 module _ (m : ℕ) (g : List Row) (st : Layered m g) where
