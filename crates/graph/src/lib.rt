@@ -1,17 +1,40 @@
 // The layered graph of a packing problem: its rows, and the theorems about its definitions in specs/.
 #![tactic(auto)]
 
+ghost use Rattle.std.specs.Prelude.{◌≡◌, None};
+ghost use Rattle.graph.specs.Graph.{leads, row};
 ghost use Rattle.graph.specs.Laws.{CompilesLayered, JoinsFix, PathsDetermined, Reduces, SpellsPatterns};
 ghost use Rattle.graph.specs.Numbering.{CompiledStepped, NumberingFixed};
 
 // One node of a graph: item i with `copies` of it taken, and the nodes to which its arcs lead.
 // The pass arc goes on to the next item, the take arc takes one copy more. The target has neither.
-#[derive(Clone, Copy)]
+#[derive(Clone, Copy, Debug, PartialEq, Eq)]
 pub struct Row {
     pub item: u32,
     pub copies: u32,
     pub take: Option<u32>,
     pub pass: Option<u32>,
+}
+
+impl Row {
+    // A node without arcs.
+    pub fn new(item: u32, copies: u32) -> Row
+        ensures { result ≡ row item copies None None }
+    {
+        Row {
+            item,
+            copies,
+            take: None,
+            pass: None,
+        }
+    }
+
+    // Where an arc from this node leads, if it is there: a take arc has an odd number, a pass arc an even one.
+    pub fn head(&self, arc: usize) -> Option<u32>
+        ensures { result ≡ leads self.now arc }
+    {
+        if arc % 2 == 1 { self.take } else { self.pass }
+    }
 }
 
 // A path is fixed by its counts, by which it can be found, and its counts by its arcs.
