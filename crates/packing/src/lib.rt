@@ -30,11 +30,8 @@ impl<'t> Item<'t> {
     pub fn fields(&self) -> &[u32]
         ensures { result.now ≡ fields_of self.now }
     {
-        if self.field_count < self.values.len() {
-            &self.values[0..self.field_count]
-        } else {
-            &self.values
-        }
+        let n = self.field_count.min(MAX_FIELDS);
+        &self.values[..n]
     }
 }
 

@@ -33,10 +33,14 @@ numbers_of (BelowDemand item) = told 20 4 item 0
 numbers_of NothingLeft = told 21 4 0 0
 numbers_of TooLittleMemory = told 17 4 0 0
 
--- `refused`, the four numbers after one space each, and a line feed
-abbrev pub line_of : Numbers → List ℕ
-line_of n = codes "refused " ++ (decimal n.number ++ (codes " " ++ (decimal n.layer ++ (codes " " ++ (decimal n.a ++ (codes " " ++ (decimal n.b ++ (10 ∷ []))))))))
+-- `refused`, and the four numbers after one space each
+abbrev pub text_of : Numbers → List ℕ
+text_of n = codes "refused " ++ (decimal n.number ++ (codes " " ++ (decimal n.layer ++ (codes " " ++ (decimal n.a ++ (codes " " ++ decimal n.b))))))
+
+-- what tells of a refusal
+abbrev pub refused_text : Refusal → List ℕ
+refused_text r = text_of (numbers_of r)
 
 -- the line that tells of a refusal
 abbrev pub refused_line : Refusal → List ℕ
-refused_line r = line_of (numbers_of r)
+refused_line r = refused_text r ++ (10 ∷ [])

@@ -1,10 +1,12 @@
 // Why a text or a call is refused, and where.
 #![tactic(auto)]
 
-ghost use Rattle.std.specs.Prelude.{◌≡◌, IfOk, string_bytes};
-ghost use Rattle.refusal.specs.Refusals.{numbers_of, refused_line};
+ghost use Rattle.std.specs.Prelude.{◌≡◌, IfOk, Some, string_bytes};
+ghost use Rattle.refusal.specs.Refusals.{numbers_of, refused_line, refused_text};
 
 use std::alloc::{AllocError, Global};
+use std::error::Error;
+use std::fmt;
 
 // Lines, fields and items are counted from 1, nodes and arcs from 0.
 #[derive(Clone, Copy, Debug, PartialEq, Eq)]
@@ -107,12 +109,22 @@ impl Refusal {
     pub fn line(&self, heap: Global) -> Result<String, AllocError>
         ensures { IfOk result (λ s. string_bytes s ≡ refused_line self.now) }
     {
+        format!(in heap; "{self}\n")
+    }
+}
+
+impl fmt::Display for Refusal {
+    ghost output = { λ r. Some (refused_text r) };
+
+    fn fmt<W: fmt::Write>(&self, f: &mut fmt::Formatter<W>) -> fmt::Result {
         let Numbers {
             number,
             layer,
             a,
             b,
         } = self.numbers();
-        format!(in heap; "refused {number} {layer} {a} {b}\n")
+        write!(f, "refused {number} {layer} {a} {b}")
     }
 }
+
+impl Error for Refusal {}

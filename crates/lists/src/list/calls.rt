@@ -40,11 +40,7 @@ impl<'a, T: Copy> List<'a, T> {
     pub fn get(&self, i: usize) -> Option<T>
         ensures { MatchOption result (length (entries self.now) ≤ i) (λ x. (i < length (entries self.now)) × (x ≡ slice_index_or (entries self.now) i x)) }
     {
-        if i < self.len {
-            self.cells.get(i).copied()
-        } else {
-            None
-        }
+        self.as_slice().get(i).copied()
     }
 
     // Puts `x` in place of the entry at `i` and answers true; false if there is no such entry.
