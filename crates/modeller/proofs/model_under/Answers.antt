@@ -12,8 +12,8 @@ returns g c =
     let counted = c.in-Some-new.counted in
     let most = c.in-Some.most in
     let MadeSo = c.in-Some-new.ensures in
-    let limit_is : counted.limit ≡ most = when_is (leb 1 most && leb most 100000) most counted.limit MadeSo.0 in
-    let same : counted_meaning counted.limit (meant counted.below) ≡ under_count c.args.count (meant c.args.kind) =
-    (λ i. counted_meaning (limit_is i) (meant (MadeSo.1 i))) ∙ ap (λ o. under_count o (meant c.args.kind)) (sym c.in-Some.is) in
+    let limit_is : counted.limit.value ≡ most = when_is (leb 1 most && leb most 100000) most counted.limit.value MadeSo.limit in
+    let same : counted_meaning counted.limit.value (meant counted.below) ≡ under_count c.args.count (meant c.args.kind) =
+    (λ i. counted_meaning (limit_is i) (meant (MadeSo.below i))) ∙ ap (λ o. under_count o (meant c.args.kind)) (sym c.in-Some.is) in
     subst (λ (k : Meaning). IfOk c.model_for-in-Some-new.result (λ v. vec_items v ≡ modelled k (orders_of c.args.items.now))) same
     c.model_for-in-Some-new.ensures
