@@ -1,32 +1,10 @@
--- An item line, field by field, and names that are known.
+-- Items read one to a line.
 use Rattle.std.proofs.Common.{◌≡◌, ℕ, suc, ◌+◌, ◌-◌, ◌<◌, ◌≤◌, List, [], ◌∷◌, ◌++◌, drop, Ok, Err, sym, refl, ap, ◌∙◌, arith}
 use Rattle.std.proofs.lemmas.List.{map_push}
-use Rattle.texts.specs.declared.fields.Fields.{Fields}
 use Rattle.refusal.specs.declared.Refusal.{Refusal}
 use Rattle.packing.specs.declared.Item.{Item}
 use Rattle.texts.specs.Entries.{entry_of, entries_in, names_in}
-use Rattle.texts.specs.Grammar.{Read, Entry, and_then, shape, name_at, numbers_at, number_at, item_of, item_at, items_at, names_of}
-use Rattle.texts.specs.Parts.{words_left, Moved}
-
--- what is left of an item line after its name and its fields
-pub item_demand : (wide : ℕ) (names : List (List ℕ)) (f₀ f₁ f₂ : Fields) (u : Unit {0}) (name : List ℕ) (xs : List ℕ) (r : Read ℕ) →
-    f₀.number ≡ 0 → Moved 1 f₀ f₁ → Moved wide f₁ f₂ →
-    Ok u ≡ shape f₀.line (wide + 2) (words_left f₀) →
-    Ok name ≡ name_at f₀.line (f₀.number + 1) names (words_left f₀) →
-    Ok xs ≡ numbers_at f₁.line (f₁.number + 1) wide (words_left f₁) [] →
-    r ≡ number_at 1 4095 f₂.line (f₂.number + 1) (words_left f₂) →
-    item_of wide f₀.line names (words_left f₀) ≡ and_then r (λ d. Ok (record { name = name; line = f₀.line; fields = xs; demand = d }))
-item_demand wide names f₀ f₁ f₂ u name xs r z m₁ m₂ e₁ e₂ e₃ e₄ =
-    let l = f₀.line in
-    let ws = words_left f₀ in
-    let k₀ : f₀.number + 1 ≡ 1 = omega (arith, z) in
-    let k₁ : f₁.number + 1 ≡ 2 = omega (arith, z, m₁.number) in
-    let k₂ : f₂.number + 1 ≡ wide + 2 = omega (arith, z, m₁.number, m₂.number) in
-    let a = sym e₁ in
-    let b : name_at l 1 names ws ≡ Ok name = sym (e₂ ∙ ap (λ k. name_at l k names ws) k₀) in
-    let c : numbers_at l 2 wide (drop 1 ws) [] ≡ Ok xs = sym (e₃ ∙ ap (λ k. numbers_at f₁.line k wide (words_left f₁) []) k₁ ∙ ap (λ m. numbers_at m 2 wide (words_left f₁) []) m₁.line ∙ ap (λ v. numbers_at l 2 wide v []) m₁.left) in
-    let d : number_at 1 4095 l (wide + 2) (drop wide (drop 1 ws)) ≡ r = sym (e₄ ∙ ap (λ k. number_at 1 4095 f₂.line k (words_left f₂)) k₂ ∙ ap (λ m. number_at 1 4095 m (wide + 2) (words_left f₂)) (m₂.line ∙ m₁.line) ∙ ap (λ v. number_at 1 4095 l (wide + 2) v) (m₂.left ∙ ap (drop wide) m₁.left)) in
-    rw (a, b, c, d)
+use Rattle.texts.specs.Grammar.{Read, Entry, and_then, item_at, items_at, names_of}
 
 -- several items, one to a line
 names_same : (items : List Item) → names_of (entries_in items) ≡ names_in items

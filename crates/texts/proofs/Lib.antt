@@ -4,7 +4,6 @@ pub mod Counts
 pub mod Readers
 pub mod Printing
 pub mod Items
-pub mod LimitLines
 pub mod Valid
 pub mod Written
 pub mod ReadBack

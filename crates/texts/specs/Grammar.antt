@@ -9,7 +9,9 @@ use Rattle.texts.specs.declared.instance.Base.{Base}
 use Rattle.texts.specs.declared.instance.Base.TheVariants.{Length, Vector, Colours}
 use Rattle.texts.specs.declared.instance.Limits.{Limits}
 use Rattle.texts.specs.Split.{lines, words}
-use Rattle.texts.specs.Words.{Form, word, number, letter, form}
+use Rattle.texts.specs.declared.fields.Field.{Field}
+use Rattle.texts.specs.declared.fields.Field.TheVariants.{Word, Number, Letter}
+use Rattle.texts.specs.Words.{form}
 
 -- what was read, or a refusal
 abbrev pub Read : Type 0 → Type 0
@@ -39,10 +41,10 @@ abbrev pub shape : (line n : ℕ) → List (List ℕ) → Read (Unit {0})
 shape line n ws = cond (just n ws) (Ok tt) (Err (WrongFieldCount line))
 
 -- a word of some form as a number in a range: its form comes first
-abbrev pub number_in : (low high line k : ℕ) → Form → Read ℕ
-number_in low high line k word = Err (NotANumber line k)
-number_in low high line k (number n) = cond (nat_le low n && nat_le n high) (Ok n) (Err (OutOfRange line k))
-number_in low high line k (letter c) = Err (NotANumber line k)
+abbrev pub number_in : (low high line k : ℕ) → Field → Read ℕ
+number_in low high line k Word = Err (NotANumber line k)
+number_in low high line k (Number n) = cond (nat_le low n && nat_le n high) (Ok n) (Err (OutOfRange line k))
+number_in low high line k (Letter c) = Err (NotANumber line k)
 
 -- the next word as a number in a range
 abbrev pub number_at : (low high line k : ℕ) → List (List ℕ) → Read ℕ
@@ -89,10 +91,10 @@ abbrev pub count_at : (low high line : ℕ) → List (List ℕ) → Read ℕ
 count_at low high line ls = and_then (line_at line ls) (λ x. sole_number low high line 1 (words x))
 
 -- the letter that a limit line begins with
-abbrev pub letter_in : Form → Option ℕ
-letter_in word = None
-letter_in (number n) = None
-letter_in (letter c) = Some c
+abbrev pub letter_in : Field → Option ℕ
+letter_in Word = None
+letter_in (Number n) = None
+letter_in (Letter c) = Some c
 
 -- the letter that stands first in a line, if one does
 abbrev pub first_letter : List (List ℕ) → Option ℕ

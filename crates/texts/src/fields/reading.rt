@@ -1,69 +1,53 @@
 // Reading a line field by field.
 ghost use Rattle.std.specs.Prelude.{◌≡◌, ◌+◌, ◌≤◌, [], length, IfOk, MatchOption, OnOk, OnSome};
 ghost use Rattle.texts.specs.Words.{form};
-ghost use Rattle.texts.specs.Parts.{part_of, form_of, words_left, PartGiven, FieldGiven, FieldsEnded, AllFields, Moved};
+ghost use Rattle.texts.specs.Parts.{words_left, PartGiven, FieldsEnded, AllFields, Moved};
 ghost use Rattle.texts.specs.Grammar.{just, shape, number_at, numbers_at, firsts, first_letter, sole_number, four_numbers};
 
 use super::{Field, Fields, Part};
-use crate::lines::end_of;
+use crate::lines::Line;
+use crate::split::split_once;
 use crate::words::{MAX_NUMBER, parse_decimal};
 use packing::MAX_FIELDS;
 use refusal::Refusal;
 
 // A field by the form of its bytes.
-pub(crate) fn classify<'t>(part: Part<'t>) -> Field<'t>
-    ensures part { part_of result ≡ part.entry }
-    ensures form { form_of result ≡ form part.entry.bytes.now }
+pub(crate) fn classify(bytes: &[u8]) -> Field
+    ensures { result ≡ form bytes.now }
 {
-    match part.bytes {
-        [b] if b.is_ascii_alphabetic() => Field::Letter(part, *b as char),
+    match bytes {
+        [b] if b.is_ascii_alphabetic() => Field::Letter(*b as char),
         bytes => match parse_decimal(bytes) {
-            Some(n) => Field::Number(part, n),
-            None => Field::Word(part),
+            Some(n) => Field::Number(n),
+            None => Field::Word,
         },
     }
 }
 
 impl<'t> Fields<'t> {
     // All fields of a line.
-    pub(crate) fn new(text: &'t [u8], line: usize) -> Self
-        ensures { AllFields text.now line result }
+    pub(crate) fn new(line: Line<'t>) -> Self
+        ensures { AllFields line.entry result }
     {
         Fields {
-            text,
-            line,
-            at: 0,
+            rest: Some(line.bytes),
+            line: line.number,
             number: 0,
         }
     }
 
-    // The next part of the line, whatever its form.
-    pub(crate) fn part(&mut self) -> Option<Part<'t>>
+    // The next field, whatever its form.
+    pub(crate) fn next(&mut self) -> Option<Part<'t>>
         ensures { MatchOption result (FieldsEnded self.old self.new) (λ part. PartGiven self.old part self.new) }
     {
-        let text = self.text;
-        let start = self.at;
-        if start > text.len() {
-            return None;
-        }
-        let end = end_of(text, start, b' ');
+        let (bytes, rest) = split_once(self.rest?, b' ');
+        self.rest = rest;
         self.number += 1;
-        self.at = end + 1;
         Some(Part {
-            bytes: &text[start..end],
+            bytes,
             line: self.line,
             number: self.number,
         })
-    }
-
-    // The next field.
-    pub(crate) fn next(&mut self) -> Option<Field<'t>>
-        ensures { MatchOption result (FieldsEnded self.old self.new) (λ field. FieldGiven self.old field self.new) }
-    {
-        match self.part() {
-            Some(part) => Some(classify(part)),
-            None => None,
-        }
     }
 
     // The next field, where it is a letter.
@@ -71,8 +55,8 @@ impl<'t> Fields<'t> {
         ensures value { result ≡ first_letter (words_left self.old) }
         ensures moved { OnSome result (Moved 1 self.old self.new) }
     {
-        match self.next() {
-            Some(Field::Letter(_, letter)) => Some(letter),
+        match classify(self.next()?.bytes) {
+            Field::Letter(letter) => Some(letter),
             _ => None,
         }
     }
@@ -89,14 +73,14 @@ impl<'t> Fields<'t> {
         ensures { result ≡ just n (words_left self.entry) }
     {
         for _ in 0..n {
-            let Some(part) = self.part() else {
+            let Some(part) = self.next() else {
                 return false;
             };
             if part.bytes.is_empty() {
                 return false;
             }
         }
-        self.part().is_none()
+        self.next().is_none()
     }
 
     // Refuses unless just `n` fields are left, none of them empty.
@@ -116,22 +100,19 @@ impl<'t> Fields<'t> {
         ensures range { IfOk result (λ n. (low ≤ n) × (n ≤ high)) }
         ensures moved { OnOk result (Moved 1 self.old self.new) }
     {
-        match self.next() {
-            Some(Field::Number(part, n)) => {
-                if low <= n && n <= high {
-                    Ok(n)
-                } else {
-                    Err(Refusal::OutOfRange {
-                        line: part.line,
-                        field: part.number,
-                    })
-                }
-            }
-            Some(Field::Word(part) | Field::Letter(part, _)) => Err(Refusal::NotANumber {
+        let Some(part) = self.next() else {
+            return Err(Refusal::WrongFieldCount { line: self.line });
+        };
+        match classify(part.bytes) {
+            Field::Number(n) if (low..=high).contains(&n) => Ok(n),
+            Field::Number(_) => Err(Refusal::OutOfRange {
                 line: part.line,
                 field: part.number,
             }),
-            None => Err(Refusal::WrongFieldCount { line: self.line }),
+            _ => Err(Refusal::NotANumber {
+                line: part.line,
+                field: part.number,
+            }),
         }
     }
 

@@ -1,12 +1,12 @@
 // The lines with a count, and the limit lines.
 ghost use Rattle.std.specs.Prelude.{◌≡◌, ◌+◌, ◌-◌, ◌≤◌, IfOk, OnOk};
 ghost use Rattle.texts.specs.Grammar.{and_then, count_at, base_of, base_at, count_limit_of, count_limit_at, second_at, items_section, sections};
-ghost use Rattle.texts.specs.Parts.{words_left};
 ghost use Rattle.texts.specs.Readers.{lines_left, reading, LinesMoved};
+ghost use Rattle.texts.specs.Split.{words};
 
 use super::{Base, Limits};
 use crate::fields::Fields;
-use crate::lines::Lines;
+use crate::lines::{Line, Lines};
 use crate::words::MAX_NUMBER;
 use packing::MAX_ITEMS;
 use refusal::Refusal;
@@ -23,8 +23,7 @@ fn read_count(lines: &mut Lines, low: u32, high: u32) -> Result<u32, Refusal>
     ensures range { IfOk result (λ n. (low ≤ n) × (n ≤ high)) }
     ensures moved { OnOk result (LinesMoved 1 lines.old lines.new) }
 {
-    let line = lines.line()?;
-    Fields::new(line, lines.number()).sole_number(low, high)
+    Fields::new(lines.line()?).sole_number(low, high)
 }
 
 // The line with the number of items.
@@ -37,16 +36,18 @@ pub(crate) fn read_item_count(lines: &mut Lines) -> Result<u32, Refusal>
 }
 
 // A letter and the limits that it asks for.
-fn base_of(mut fields: Fields) -> Result<Base, Refusal>
-    requires { fields.number ≡ 0 }
-    ensures { result ≡ base_of fields.entry.line (words_left fields.entry) }
+fn base_of(line: Line) -> Result<Base, Refusal>
+    ensures { result ≡ base_of line.entry.number (words line.entry.bytes.now) }
 {
-    let line = fields.line();
+    let mut fields = Fields::new(line);
     match fields.letter() {
         Some('L') => Ok(Base::Length(fields.sole_number(1, MAX_NUMBER)?)),
         Some('V') => Ok(Base::Vector(fields.four_numbers()?)),
         Some('C') => Ok(Base::Colours(fields.sole_number(0, MAX_COLOURS)?)),
-        _ => Err(Refusal::UnknownLetter { line, field: 1 }),
+        _ => Err(Refusal::UnknownLetter {
+            line: line.number,
+            field: 1,
+        }),
     }
 }
 
@@ -55,19 +56,20 @@ fn read_base(lines: &mut Lines) -> Result<Base, Refusal>
     ensures value { result ≡ base_at (lines.old.number + 1) (lines_left lines.old) }
     ensures moved { OnOk result (LinesMoved 1 lines.old lines.new) }
 {
-    let line = lines.line()?;
-    base_of(Fields::new(line, lines.number()))
+    base_of(lines.line()?)
 }
 
 // The letter N and the limit on the number of items.
-fn count_limit_of(mut fields: Fields) -> Result<u32, Refusal>
-    requires { fields.number ≡ 0 }
-    ensures { result ≡ count_limit_of fields.entry.line (words_left fields.entry) }
+fn count_limit_of(line: Line) -> Result<u32, Refusal>
+    ensures { result ≡ count_limit_of line.entry.number (words line.entry.bytes.now) }
 {
-    let line = fields.line();
+    let mut fields = Fields::new(line);
     match fields.letter() {
         Some('N') => fields.sole_number(1, MAX_COUNT),
-        _ => Err(Refusal::UnknownLetter { line, field: 1 }),
+        _ => Err(Refusal::UnknownLetter {
+            line: line.number,
+            field: 1,
+        }),
     }
 }
 
@@ -76,8 +78,7 @@ fn read_count_limit(lines: &mut Lines) -> Result<u32, Refusal>
     ensures value { result ≡ count_limit_at (lines.old.number + 1) (lines_left lines.old) }
     ensures moved { OnOk result (LinesMoved 1 lines.old lines.new) }
 {
-    let line = lines.line()?;
-    count_limit_of(Fields::new(line, lines.number()))
+    count_limit_of(lines.line()?)
 }
 
 // The second limit line, if there are two.

@@ -5,12 +5,13 @@ ghost use Rattle.texts.specs.Entries.{names_in, entries_in, entry_seen, spelled_
 ghost use Rattle.texts.specs.Valid.{Valid};
 ghost use Rattle.texts.specs.Parts.{words_left, Moved};
 ghost use Rattle.texts.specs.Readers.{lines_left, reading, LinesMoved, seen};
+ghost use Rattle.texts.specs.Split.{words};
 
 use super::header::{read_item_count, read_limits};
 use super::{Base, Instance, Limits, ReadError};
 use crate::fields::Fields;
-use crate::lines::Lines;
 use crate::lines::reading::check_text;
+use crate::lines::{Line, Lines};
 use packing::{Item, MAX_DEMAND, MAX_FIELDS, MAX_ITEMS};
 use refusal::Refusal;
 
@@ -53,7 +54,7 @@ fn name_of<'t>(fields: &mut Fields<'t>, items: &[Item]) -> Result<&'t [u8], Refu
     ensures value { seen result ≡ name_at fields.old.line (fields.old.number + 1) (names_in items.now) (words_left fields.old) }
     ensures moved { OnOk result (Moved 1 fields.old fields.new) }
 {
-    let Some(part) = fields.part() else {
+    let Some(part) = fields.next() else {
         return Err(Refusal::WrongFieldCount {
             line: fields.line(),
         });
@@ -69,22 +70,18 @@ fn name_of<'t>(fields: &mut Fields<'t>, items: &[Item]) -> Result<&'t [u8], Refu
 }
 
 // A line as an item with so many fields.
-fn item_of<'t>(
-    mut fields: Fields<'t>,
-    field_count: usize,
-    items: &[Item],
-) -> Result<Item<'t>, Refusal>
-    requires { (fields.number ≡ 0) × (field_count ≤ 4) }
-    ensures { entry_seen result ≡ item_of field_count fields.entry.line (names_in items.now) (words_left fields.entry) }
+fn item_of<'t>(line: Line<'t>, field_count: usize, items: &[Item]) -> Result<Item<'t>, Refusal>
+    requires { field_count ≤ 4 }
+    ensures { entry_seen result ≡ item_of field_count line.entry.number (names_in items.now) (words line.entry.bytes.now) }
 {
-    let line = fields.line();
+    let mut fields = Fields::new(line);
     fields.expect(field_count + 2)?;
     let name = name_of(&mut fields, items)?;
     let values = fields.numbers(field_count)?;
     let demand = fields.number(1, MAX_DEMAND)?;
     Ok(Item {
         name,
-        line,
+        line: line.number,
         values,
         field_count,
         demand,
@@ -101,8 +98,7 @@ fn read_item<'t>(
     ensures value { entry_seen result ≡ item_at field_count (lines.old.number + 1) (names_in items.now) (lines_left lines.old) }
     ensures moved { OnOk result (LinesMoved 1 lines.old lines.new) }
 {
-    let line = lines.line()?;
-    item_of(Fields::new(line, lines.number()), field_count, items)
+    item_of(lines.line()?, field_count, items)
 }
 
 // `n` items, one to a line, into a table that has room for them.

@@ -1,9 +1,10 @@
 // Reading a text line by line.
-ghost use Rattle.std.specs.Prelude.{◌≡◌, ◌+◌, MatchOption, OnOk};
+ghost use Rattle.std.specs.Prelude.{◌≡◌, ◌+◌, IfOk, MatchOption, OnOk};
 ghost use Rattle.texts.specs.Grammar.{prints_of, printable, line_at, end_at, well_formed, formed};
-ghost use Rattle.texts.specs.Readers.{lines_left, AllLines, LineGiven, LinesEnded, LinesMoved, seen};
+ghost use Rattle.texts.specs.Readers.{lines_left, AllLines, LineGiven, LinesEnded, LinesMoved, line_seen};
 
-use super::{Lines, end_of};
+use super::{Line, Lines};
+use crate::split::split_once;
 use refusal::Refusal;
 
 // The most bytes of a text.
@@ -53,37 +54,31 @@ impl<'t> Lines<'t> {
         ensures { AllLines text.now result }
     {
         Lines {
-            text,
-            at: 0,
+            rest: text,
             number: 0,
         }
     }
 
-    // How many lines were handed out, which is the number of the latest.
-    pub(crate) fn number(&self) -> usize
-        ensures { result ≡ self.now.number }
+    // The next line, whatever its bytes.
+    pub(crate) fn next(&mut self) -> Option<Line<'t>>
+        ensures { MatchOption result (LinesEnded self.old self.new) (λ line. LineGiven self.old line self.new) }
     {
-        self.number
-    }
-
-    // The next line, without its line feed.
-    pub(crate) fn next(&mut self) -> Option<&'t [u8]>
-        ensures { MatchOption result (LinesEnded self.old self.new) (λ line. LineGiven self.old line.now self.new) }
-    {
-        let text = self.text;
-        let start = self.at;
-        if start >= text.len() {
+        if self.rest.is_empty() {
             return None;
         }
-        let end = end_of(text, start, b'\n');
+        let (bytes, rest) = split_once(self.rest, b'\n');
+        self.rest = rest.unwrap_or(&[]);
         self.number += 1;
-        self.at = end + 1;
-        Some(&text[start..end])
+        Some(Line {
+            bytes,
+            number: self.number,
+        })
     }
 
     // The next line, which has to be there and to be printable.
-    pub(crate) fn line(&mut self) -> Result<&'t [u8], Refusal>
-        ensures value { seen result ≡ line_at (self.old.number + 1) (lines_left self.old) }
+    pub(crate) fn line(&mut self) -> Result<Line<'t>, Refusal>
+        ensures value { line_seen result ≡ line_at (self.old.number + 1) (lines_left self.old) }
+        ensures number { IfOk result (λ line. line.number ≡ self.old.number + 1) }
         ensures moved { OnOk result (LinesMoved 1 self.old self.new) }
     {
         let Some(line) = self.next() else {
@@ -91,10 +86,10 @@ impl<'t> Lines<'t> {
                 line: self.number + 1,
             });
         };
-        if is_printable(line) {
+        if is_printable(line.bytes) {
             Ok(line)
         } else {
-            Err(Refusal::BadByte { line: self.number })
+            Err(Refusal::BadByte { line: line.number })
         }
     }
 
@@ -104,7 +99,7 @@ impl<'t> Lines<'t> {
     {
         match self.next() {
             None => Ok(()),
-            Some(_) => Err(Refusal::WrongLineCount { line: self.number }),
+            Some(line) => Err(Refusal::WrongLineCount { line: line.number }),
         }
     }
 }
