@@ -2,7 +2,6 @@ pub mod Splits
 pub mod Numbers
 pub mod Counts
 pub mod Readers
-pub mod Printing
 pub mod Items
 pub mod Valid
 pub mod Written

@@ -1,7 +1,8 @@
 -- The instance text: which instance it spells, or why it is refused. Lines are counted from 1, and so are the words of a
 -- line, which are its fields.
-use Rattle.std.specs.Prelude.{ℕ, zero, suc, ◌+◌, ◌-◌, Bool, true, false, cond, not, ◌&&◌, ◌||◌, List, [], ◌∷◌, ◌++◌, map, length, take, drop, Some, None, Ok, Err, Option, Result, ◌==◌, nat_le, slice_index}
+use Rattle.std.specs.Prelude.{ℕ, zero, suc, ◌+◌, ◌-◌, Bool, true, false, cond, not, ◌&&◌, List, [], ◌∷◌, ◌++◌, map, length, take, drop, Some, None, Ok, Err, Option, Result, ◌==◌, nat_le, slice_index}
 use Rattle.std.specs.Char.{is_ascii_digit}
+use Rattle.std.specs.List.{list_all, list_any}
 use Rattle.std.specs.Str.{bytes_eq}
 use Rattle.refusal.specs.declared.Refusal.{Refusal}
 use Rattle.refusal.specs.declared.Refusal.TheVariants.{BadByte, NotANumber, WrongFieldCount, UnknownLetter, OutOfRange, BadName, MalformedText, WrongLineCount}
@@ -73,8 +74,7 @@ prints_of b = nat_le 32 b && nat_le b 126
 
 -- all bytes are printable ASCII
 abbrev pub printable : List ℕ → Bool
-printable [] = true
-printable (b ∷ bs) = prints_of b && printable bs
+printable bs = list_all prints_of bs
 
 -- the next line, which has to be there and to be printable
 abbrev pub line_at : (line : ℕ) → List (List ℕ) → Read (List ℕ)
@@ -146,8 +146,7 @@ pub record Entry : Type 0 where
 
 -- whether a name is among others
 abbrev pub known : List ℕ → List (List ℕ) → Bool
-known w [] = false
-known w (n ∷ ns) = bytes_eq n w || known w ns
+known w names = list_any (λ n. bytes_eq n w) names
 
 -- 1 to 16 bytes, no digit first, and none of the earlier names
 abbrev pub good_name : List (List ℕ) → List ℕ → Bool

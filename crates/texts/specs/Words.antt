@@ -1,6 +1,7 @@
 -- The forms of a word: a decimal number, a letter, or any other word.
 use Rattle.std.specs.Prelude.{ℕ, ◌+◌, ◌-◌, ◌*◌, Bool, true, false, cond, not, ◌&&◌, List, [], ◌∷◌, Some, None, Option, ◌==◌, nat_le}
 use Rattle.std.specs.Char.{is_ascii_digit, is_ascii_alphabetic}
+use Rattle.std.specs.List.{list_all}
 use Rattle.texts.specs.declared.fields.Field.{Field}
 use Rattle.texts.specs.declared.fields.Field.TheVariants.{Word, Number, Letter}
 
@@ -8,8 +9,7 @@ use Rattle.texts.specs.declared.fields.Field.TheVariants.{Word, Number, Letter}
 
 -- all bytes are decimal digits
 abbrev pub all_digits : List ℕ → Bool
-all_digits [] = true
-all_digits (b ∷ bs) = is_ascii_digit b && all_digits bs
+all_digits bs = list_all is_ascii_digit bs
 
 -- the number spelled by digits that follow those of n
 abbrev pub value : ℕ → List ℕ → ℕ

@@ -33,12 +33,7 @@ fn field_count(base: Base) -> usize
 fn is_known(name: &[u8], items: &[Item]) -> bool
     ensures { result ≡ known name.now (names_in items.now) }
 {
-    for item in items {
-        if item.name == name {
-            return true;
-        }
-    }
-    false
+    items.iter().any(|item| item.name == name)
 }
 
 // Whether a field can be the name of the item after these.

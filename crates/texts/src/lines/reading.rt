@@ -14,19 +14,14 @@ pub const MAX_TEXT: usize = 65_536;
 fn prints(b: u8) -> bool
     ensures { result ≡ prints_of b }
 {
-    b' ' <= b && b <= b'~'
+    (b' '..=b'~').contains(&b)
 }
 
 // Whether all bytes are printable ASCII.
 fn is_printable(bytes: &[u8]) -> bool
     ensures { result ≡ printable bytes.now }
 {
-    for b in bytes {
-        if !prints(*b) {
-            return false;
-        }
-    }
-    true
+    bytes.iter().all(|b| prints(*b))
 }
 
 // Whether a text has 1 to `MAX_TEXT` bytes and ends with a line feed.
