@@ -40,8 +40,7 @@ fn is_known(name: &[u8], items: &[Item]) -> bool
 fn is_good_name(name: &[u8], items: &[Item]) -> bool
     ensures { result ≡ good_name (names_in items.now) name.now }
 {
-    let n = name.len();
-    1 <= n && n <= MAX_NAME && !name[0].is_ascii_digit() && !is_known(name, items)
+    (1..=MAX_NAME).contains(&name.len()) && !name[0].is_ascii_digit() && !is_known(name, items)
 }
 
 // The next field as a name that no earlier item has.

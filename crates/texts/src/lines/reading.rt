@@ -28,8 +28,7 @@ fn is_printable(bytes: &[u8]) -> bool
 fn is_well_formed(text: &[u8]) -> bool
     ensures { result ≡ well_formed text.now }
 {
-    let n = text.len();
-    n > 0 && n <= MAX_TEXT && text[n - 1] == b'\n'
+    text.len() <= MAX_TEXT && text.ends_with(b"\n")
 }
 
 // Refuses a text that is empty, too long or without its last line feed.
