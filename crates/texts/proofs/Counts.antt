@@ -1,8 +1,8 @@
 -- Words that are counted one by one.
-use Rattle.std.proofs.Common.{◌≡◌, ℕ, suc, ◌+◌, ◌-◌, ◌<◌, ◌≤◌, true, false, List, [], ◌∷◌, ◌++◌, length, take, drop, set, IfOk, Ok, Err, sym, refl, ap, ◌∙◌, arith}
-use Rattle.std.proofs.lemmas.List.{take_more_set, take_all}
+use Rattle.std.proofs.Common.{◌≡◌, ℕ, suc, ◌+◌, ◌-◌, ◌<◌, ◌≤◌, false, List, [], ◌∷◌, ◌++◌, length, take, drop, set, Ok, Err, sym, refl, ap, ◌∙◌, arith}
+use Rattle.std.proofs.lemmas.List.{take_more_set}
 use Rattle.refusal.specs.declared.Refusal.{Refusal}
-use Rattle.texts.specs.Grammar.{Read, just, number_at, numbers_at, firsts}
+use Rattle.texts.specs.Grammar.{Read, just, number_at, numbers_at}
 
 one_less : (n i : ℕ) → i < n → n - i ≡ suc (n - (i + 1))
 one_less n i h = omega arith
@@ -18,12 +18,6 @@ module _ (n i : ℕ) (ws : List (List ℕ)) where
   pub just_more : i < n → (w : List ℕ) (more : List (List ℕ)) → ws ≡ w ∷ more → (length w ≡ 0 → ⊥) → just (n - i) ws ≡ just (n - (i + 1)) more
   just_more h [] more e z = absurd (z refl)
   just_more h (b ∷ w) more e z = rw (one_less n i h, e)
-
-  pub just_done : n ≤ i → ws ≡ [] → just (n - i) ws ≡ true
-  just_done h e = let z : n - i ≡ 0 = omega arith in rw (z, e)
-
-  pub just_over : n ≤ i → (w : List ℕ) (more : List (List ℕ)) → ws ≡ w ∷ more → just (n - i) ws ≡ false
-  just_over h w more e = let z : n - i ≡ 0 = omega arith in rw (z, e)
 
 -- one number of several: the reader stands at word number k of its line, i numbers are read
 module _ (line start n i l k : ℕ) (was : List (List ℕ)) (h : i < n) (same : l ≡ line) (at : k ≡ start + i) where
@@ -45,8 +39,3 @@ module _ (line start n i l k : ℕ) (was : List (List ℕ)) (h : i < n) (same : 
 pub numbers_done : (line k n i : ℕ) (ws : List (List ℕ)) (xs : List ℕ) → n ≤ i → numbers_at line k (n - i) ws xs ≡ Ok xs
 unfolding numbers_at
 numbers_done line k n i ws xs h = let z : n - i ≡ 0 = omega arith in rw z
-
--- an answer of n numbers is all of its first n
-pub firsts_all : (n : ℕ) (r : Read (List ℕ)) → IfOk r (λ xs. length xs ≡ n) → firsts n r ≡ r
-firsts_all n (Ok xs) e = ap Ok (take_all n xs (omega (arith, e)))
-firsts_all n (Err e) u = refl

@@ -1,6 +1,6 @@
 -- The instance text: which instance it spells, or why it is refused. Lines are counted from 1, and so are the words of a
 -- line, which are its fields.
-use Rattle.std.specs.Prelude.{ℕ, zero, suc, ◌+◌, ◌-◌, Bool, true, false, cond, not, ◌&&◌, List, [], ◌∷◌, ◌++◌, map, length, take, drop, Some, None, Ok, Err, Option, Result, ◌==◌, nat_le, slice_index}
+use Rattle.std.specs.Prelude.{ℕ, zero, suc, ◌+◌, ◌-◌, Bool, true, false, cond, not, ◌&&◌, List, [], ◌∷◌, ◌++◌, map, length, drop, Some, None, Ok, Err, Option, Result, ◌==◌, nat_le, slice_index}
 use Rattle.std.specs.Char.{is_ascii_digit}
 use Rattle.std.specs.List.{list_all, list_any}
 use Rattle.std.specs.Str.{bytes_eq}
@@ -22,10 +22,6 @@ Read A = Result A Refusal
 abbrev pub and_then : {A B : Type 0} → Read A → (A → Read B) → Read B
 and_then (Ok a) f = f a
 and_then (Err e) f = Err e
-
--- the first n of what was read
-abbrev pub firsts : ℕ → Read (List ℕ) → Read (List ℕ)
-firsts n r = and_then r (λ xs. Ok (take n xs))
 
 -- A line from its word number k on
 

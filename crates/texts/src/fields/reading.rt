@@ -1,8 +1,8 @@
 // Reading a line field by field.
-ghost use Rattle.std.specs.Prelude.{◌≡◌, ◌+◌, ◌≤◌, [], length, IfOk, MatchOption, OnOk, OnSome};
+ghost use Rattle.std.specs.Prelude.{◌≡◌, ◌+◌, ◌≤◌, [], length, Ok, IfOk, MatchOption, OnOk, OnSome};
 ghost use Rattle.texts.specs.Words.{form};
 ghost use Rattle.texts.specs.Parts.{words_left, PartGiven, FieldsEnded, AllFields, Moved};
-ghost use Rattle.texts.specs.Grammar.{just, shape, number_at, numbers_at, firsts, first_letter, sole_number, four_numbers};
+ghost use Rattle.texts.specs.Grammar.{and_then, just, shape, number_at, numbers_at, first_letter, sole_number, four_numbers};
 
 use super::{Field, Fields, Part};
 use crate::lines::Line;
@@ -116,18 +116,16 @@ impl<'t> Fields<'t> {
         }
     }
 
-    // The next `n` fields as numbers, which stand first in the answer.
-    pub(crate) fn numbers(&mut self, n: usize) -> Result<[u32; MAX_FIELDS], Refusal>
-        requires { n ≤ 4 }
-        ensures value { firsts n result ≡ numbers_at self.old.line (self.old.number + 1) n (words_left self.old) [] }
-        ensures long { IfOk result (λ values. length values ≡ 4) }
-        ensures moved { OnOk result (Moved n self.old self.new) }
+    // The next fields as numbers, one for each of `values`.
+    pub(crate) fn numbers(&mut self, values: &mut [u32]) -> Result<(), Refusal>
+        ensures value { numbers_at self.old.line (self.old.number + 1) (length values.old) (words_left self.old) []
+            ≡ and_then result (λ _. Ok values.new) }
+        ensures moved { OnOk result (Moved (length values.old) self.old self.new) }
     {
-        let mut values = [0; MAX_FIELDS];
-        for i in 0..n {
-            values[i] = self.number(0, MAX_NUMBER)?;
+        for value in values.iter_mut() {
+            *value = self.number(0, MAX_NUMBER)?;
         }
-        Ok(values)
+        Ok(())
     }
 
     // The one field that is left, as a number from `low` to `high`.
@@ -144,6 +142,8 @@ impl<'t> Fields<'t> {
         ensures { result ≡ four_numbers self.entry.line (self.entry.number + 1) (words_left self.entry) }
     {
         self.expect(MAX_FIELDS)?;
-        self.numbers(MAX_FIELDS)
+        let mut four = [0; MAX_FIELDS];
+        self.numbers(&mut four)?;
+        Ok(four)
     }
 }

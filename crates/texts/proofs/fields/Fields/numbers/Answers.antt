@@ -1,36 +1,37 @@
-use Rattle.std.proofs.Common.{◌≡◌, ◌+◌, take, Ok, sym, ap, ◌∙◌, subst, arith, length-set}
-use Rattle.texts.specs.Grammar.{firsts}
+use Rattle.std.proofs.Common.{◌≡◌, ◌+◌, length, take, Ok, sym, ap, ◌∙◌, subst, arith}
+use Rattle.std.proofs.lemmas.List.{take_all}
 use Rattle.texts.specs.Parts.{words_left, Moved}
 use Rattle.texts.proofs.Counts.{numbers_more, numbers_refused, numbers_done}
-use Rattle.texts.proofs.Readers.{moved_more, stopped}
+use Rattle.texts.proofs.Readers.{moved_more, stopped_at}
 use Rattle.texts.proofs.fields.Fields.numbers.Goals as goal
 
-pub returns-in_err-values : goal.returns-in_err-values
-returns-in_err-values c =
+pub returns-in_err-value-clause-value : goal.returns-in_err-value-clause-value
+returns-in_err-value-clause-value c =
     let was = c.args.self.now in
-    let read = c.in_err-values.ensures in
-    let inv = c.loop-i.invariant in
-    let none = numbers_refused was.line was.number c.args.n c.loop-i.i c.loop-i.self.line c.loop-i.self.number (words_left c.loop-i.self) (omega arith) inv.1.line inv.1.number (take c.loop-i.i c.loop-i.values) _ read.value in
-    let err = stopped c.from_residual.result c.from_residual.ensures.1 in
-    record { value = ap (firsts c.args.n) err ∙ sym none ∙ inv.2; long = rw err tt; moved = rw err tt }
+    let loop = c.loop-value in
+    let inv = loop.invariant in
+    let none = numbers_refused was.line was.number (length c.args.values.now) loop.value-index loop.self.line loop.self.number (words_left loop.self) (omega arith) inv.moved.line inv.moved.number (take loop.value-index loop.values) _ c.in_err-value.ensures.value in
+    sym inv.read ∙ stopped_at c.from_residual.result _ _ none c.from_residual.ensures.1
 
-pub loop-i-preserved : goal.loop-i-preserved
-loop-i-preserved c =
+pub loop-value-preserved : goal.loop-value-preserved
+loop-value-preserved c =
     let was = c.args.self.now in
-    let read = c.in_ok-values.ensures in
-    let inv = c.loop-i.invariant in (
-      length-set _ _ _ ∙ inv.0,
-      moved_more _ 1 _ _ _ inv.1 read.moved,
-      numbers_more was.line was.number c.args.n c.loop-i.i c.loop-i.self.line c.loop-i.self.number (words_left c.loop-i.self) (omega arith) inv.1.line inv.1.number (words_left c.number.new.self) c.loop-i.values c.in_ok-values.field-0 (omega (arith, inv.0)) read.moved.left read.value ∙ inv.2,
-    )
+    let loop = c.loop-value in
+    let inv = loop.invariant in
+    let next = c.in_ok-value.ensures in
+    record {
+      moved = moved_more _ 1 _ _ _ inv.moved next.moved;
+      read = numbers_more was.line was.number (length c.args.values.now) loop.value-index loop.self.line loop.self.number (words_left loop.self) (omega arith) inv.moved.line inv.moved.number (words_left c.number.new.self) loop.values c.in_ok-value.field-0 (omega arith) next.moved.left next.value ∙ inv.read;
+    }
 
 pub returns : goal.returns
 returns c =
     let was = c.args.self.now in
-    let inv = c.loop-i.invariant in
-    let all : c.loop-i.i ≡ c.args.n = omega arith in
+    let loop = c.loop-value in
+    let n = length c.args.values.now in
+    let all : loop.value-index ≡ n = omega arith in
+    let done = numbers_done was.line (was.number + loop.value-index + 1) n loop.value-index (words_left loop.self) (take loop.value-index loop.values) (omega arith) in
     record {
-      value = ap (λ k. Ok (take k c.loop-i.values)) (sym all) ∙ sym (numbers_done was.line (was.number + c.loop-i.i + 1) c.args.n c.loop-i.i (words_left c.loop-i.self) (take c.loop-i.i c.loop-i.values) (omega arith)) ∙ inv.2;
-      long = inv.0;
-      moved = subst (λ k. Moved k was c.loop-i.self) all inv.1;
+      value = sym loop.invariant.read ∙ done ∙ ap Ok (take_all loop.value-index loop.values (omega arith));
+      moved = subst (λ k. Moved k was loop.self) all loop.invariant.moved;
     }

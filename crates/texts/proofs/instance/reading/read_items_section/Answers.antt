@@ -22,7 +22,7 @@ returns-in_err-read_items c =
     let limits = c.args.limits in
     let n = c.in_ok-n.n in
     let was = c.read_item_count.new.lines in
-    let read = ap (λ k. items_at k (was.number + 1) n (lines_left was) []) (sym c.field_count.ensures) ∙ c.in_err-read_items.ensures.value in
+    let read = ap (λ is. items_at (field_count_of limits.base) (was.number + 1) n (lines_left was) (entries_in is)) (sym c.clear.ensures.items) ∙ c.in_err-read_items.ensures.value in
     count_read (goal.at.returns-in_err-read_items c).In_ok-n ∙ stopped_at _ _ _ (stops n (λ l ls. items_at (field_count_of limits.base) l n ls []) (text_end limits.base limits.count) was _ (sym read)) c.from_residual-in_err-read_items.ensures.1
 
 pub returns : goal.returns
@@ -33,5 +33,5 @@ returns c =
     let is = c.read_items.new.lines in
     let es = entries_in (vec_items c.read_items.new.items) in
     let told = c.in_ok-read_items.ensures in
-    let read = ap (λ k. items_at k (was.number + 1) n (lines_left was) []) (sym c.field_count.ensures) ∙ told.value in
+    let read = ap (λ is. items_at (field_count_of limits.base) (was.number + 1) n (lines_left was) (entries_in is)) (sym c.clear.ensures.items) ∙ told.value in
     count_read (goal.at.returns c).In_ok-n ∙ goes_on n (λ l ls. items_at (field_count_of limits.base) l n ls []) (text_end limits.base limits.count) was is es (sym read) told.moved ∙ end_read (record { limits = limits; items = es }) is c.end.result c.end.ensures
