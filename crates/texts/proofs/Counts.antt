@@ -1,23 +1,24 @@
 -- Words that are counted one by one.
-use Rattle.std.proofs.Common.{◌≡◌, ℕ, suc, ◌+◌, ◌-◌, ◌<◌, ◌≤◌, false, List, [], ◌∷◌, ◌++◌, length, take, drop, set, Ok, Err, sym, refl, ap, ◌∙◌, arith}
+use Rattle.std.proofs.Common.{◌≡◌, ℕ, suc, ◌+◌, ◌-◌, ◌<◌, ◌≤◌, Bool, true, false, cond, eqb, MatchOption, Option, Some, None, List, [], ◌∷◌, ◌++◌, length, take, drop, set, Ok, Err, sym, refl, ap, ◌∙◌, arith}
+use Rattle.std.proofs.lemmas.Bool.{cond-false, ne_eqb}
 use Rattle.std.proofs.lemmas.List.{take_more_set}
 use Rattle.refusal.specs.declared.Refusal.{Refusal}
+use Rattle.texts.specs.declared.fields.Fields.{Fields}
+use Rattle.texts.specs.declared.fields.Part.{Part}
+use Rattle.texts.specs.Parts.{words_left, FieldsEnded, PartGiven}
 use Rattle.texts.specs.Grammar.{Read, just, number_at, numbers_at}
 
 one_less : (n i : ℕ) → i < n → n - i ≡ suc (n - (i + 1))
 one_less n i h = omega arith
 
-module _ (n i : ℕ) (ws : List (List ℕ)) where
-  pub just_none : i < n → ws ≡ [] → just (n - i) ws ≡ false
-  just_none h e = rw (one_less n i h, e)
-
-  pub just_empty : i < n → (w : List ℕ) (more : List (List ℕ)) → ws ≡ w ∷ more → length w ≡ 0 → just (n - i) ws ≡ false
-  just_empty h [] more e z = rw (one_less n i h, e)
-  just_empty h (b ∷ w) more e z = absurd (omega arith)
-
-  pub just_more : i < n → (w : List ℕ) (more : List (List ℕ)) → ws ≡ w ∷ more → (length w ≡ 0 → ⊥) → just (n - i) ws ≡ just (n - (i + 1)) more
-  just_more h [] more e z = absurd (z refl)
-  just_more h (b ∷ w) more e z = rw (one_less n i h, e)
+-- one word of several: t says that it is missing or empty
+pub just_step : (n i : ℕ) (was is : Fields) (o : Option Part) (t : Bool) → i < n → MatchOption o (FieldsEnded was is) (λ p. PartGiven was p is) → MatchOption o (t ≡ true) (λ p. t ≡ eqb (length p.bytes.now) 0) → just (n - i) (words_left was) ≡ cond t false (just (n - (i + 1)) (words_left is))
+just_step n i was is None t h ended e = rw (one_less n i h, ended.left, e)
+just_step n i was is (Some p) t h given e = rw (one_less n i h, given.left, e) (word p.bytes.now)
+  where
+    word : (w : List ℕ) → just (suc (n - (i + 1))) (w ∷ words_left is) ≡ cond (eqb (length w) 0) false (just (n - (i + 1)) (words_left is))
+    word [] = refl
+    word (b ∷ w) = sym (cond-false _ _ _ (ne_eqb (length (b ∷ w)) 0 (λ e. omega arith)))
 
 -- one number of several: the reader stands at word number k of its line, i numbers are read
 module _ (line start n i l k : ℕ) (was : List (List ℕ)) (h : i < n) (same : l ≡ line) (at : k ≡ start + i) where

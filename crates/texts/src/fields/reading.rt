@@ -1,5 +1,6 @@
 // Reading a line field by field.
 ghost use Rattle.std.specs.Prelude.{◌≡◌, ◌+◌, ◌≤◌, [], length, Ok, IfOk, MatchOption, OnOk, OnSome};
+ghost use Rattle.texts.specs.Valid.{Within};
 ghost use Rattle.texts.specs.Words.{form};
 ghost use Rattle.texts.specs.Parts.{words_left, PartGiven, FieldsEnded, AllFields, Moved};
 ghost use Rattle.texts.specs.Grammar.{and_then, just, shape, number_at, numbers_at, first_letter, sole_number, four_numbers};
@@ -17,10 +18,7 @@ pub(crate) fn classify(bytes: &[u8]) -> Field
 {
     match bytes {
         [b] if b.is_ascii_alphabetic() => Field::Letter(*b as char),
-        bytes => match parse_decimal(bytes) {
-            Some(n) => Field::Number(n),
-            None => Field::Word,
-        },
+        bytes => parse_decimal(bytes).map_or(Field::Word, Field::Number),
     }
 }
 
@@ -73,10 +71,7 @@ impl<'t> Fields<'t> {
         ensures { result ≡ just n (words_left self.entry) }
     {
         for _ in 0..n {
-            let Some(part) = self.next() else {
-                return false;
-            };
-            if part.bytes.is_empty() {
+            if self.next().is_none_or(|part| part.bytes.is_empty()) {
                 return false;
             }
         }
@@ -97,12 +92,12 @@ impl<'t> Fields<'t> {
     // The next field as a number from `low` to `high`.
     pub(crate) fn number(&mut self, low: u32, high: u32) -> Result<u32, Refusal>
         ensures value { result ≡ number_at low high self.old.line (self.old.number + 1) (words_left self.old) }
-        ensures range { IfOk result (λ n. (low ≤ n) × (n ≤ high)) }
+        ensures range { IfOk result (Within low high) }
         ensures moved { OnOk result (Moved 1 self.old self.new) }
     {
-        let Some(part) = self.next() else {
-            return Err(Refusal::WrongFieldCount { line: self.line });
-        };
+        let part = self
+            .next()
+            .ok_or(Refusal::WrongFieldCount { line: self.line })?;
         match classify(part.bytes) {
             Field::Number(n) if (low..=high).contains(&n) => Ok(n),
             Field::Number(_) => Err(Refusal::OutOfRange {
@@ -131,7 +126,7 @@ impl<'t> Fields<'t> {
     // The one field that is left, as a number from `low` to `high`.
     pub(crate) fn sole_number(mut self, low: u32, high: u32) -> Result<u32, Refusal>
         ensures value { result ≡ sole_number low high self.entry.line (self.entry.number + 1) (words_left self.entry) }
-        ensures range { IfOk result (λ n. (low ≤ n) × (n ≤ high)) }
+        ensures range { IfOk result (Within low high) }
     {
         self.expect(1)?;
         self.number(low, high)

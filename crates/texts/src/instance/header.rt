@@ -3,6 +3,7 @@ ghost use Rattle.std.specs.Prelude.{◌≡◌, ◌+◌, ◌-◌, ◌≤◌, IfOk
 ghost use Rattle.texts.specs.Grammar.{and_then, count_at, base_of, base_at, count_limit_of, count_limit_at, second_at, items_section, sections};
 ghost use Rattle.texts.specs.Readers.{lines_left, reading, LinesMoved};
 ghost use Rattle.texts.specs.Split.{words};
+ghost use Rattle.texts.specs.Valid.{Within};
 
 use super::{Base, Limits};
 use crate::fields::Fields;
@@ -20,7 +21,7 @@ pub const MAX_COUNT: u32 = 100_000;
 // A line of one number from `low` to `high`.
 fn read_count(lines: &mut Lines, low: u32, high: u32) -> Result<u32, Refusal>
     ensures value { result ≡ count_at low high (lines.old.number + 1) (lines_left lines.old) }
-    ensures range { IfOk result (λ n. (low ≤ n) × (n ≤ high)) }
+    ensures range { IfOk result (Within low high) }
     ensures moved { OnOk result (LinesMoved 1 lines.old lines.new) }
 {
     Fields::new(lines.line()?).sole_number(low, high)
@@ -83,7 +84,7 @@ fn read_count_limit(lines: &mut Lines) -> Result<u32, Refusal>
 
 // The second limit line, if there are two.
 fn read_second(lines: &mut Lines, limits: u32) -> Result<Option<u32>, Refusal>
-    requires { (1 ≤ limits) × (limits ≤ 2) }
+    requires { limits ≤ 2 }
     ensures value { result ≡ second_at limits (lines.old.number + 1) (lines_left lines.old) }
     ensures moved { OnOk result (LinesMoved (limits - 1) lines.old lines.new) }
 {

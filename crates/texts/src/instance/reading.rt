@@ -37,11 +37,9 @@ fn name_of<'t>(fields: &mut Fields<'t>, items: &[Item]) -> Result<&'t [u8], Refu
     ensures value { seen result ≡ name_at fields.old.line (fields.old.number + 1) (names_in items.now) (words_left fields.old) }
     ensures moved { OnOk result (Moved 1 fields.old fields.new) }
 {
-    let Some(part) = fields.next() else {
-        return Err(Refusal::WrongFieldCount {
-            line: fields.line(),
-        });
-    };
+    let part = fields.next().ok_or(Refusal::WrongFieldCount {
+        line: fields.line(),
+    })?;
     if is_good_name(part.bytes, items) {
         Ok(part.bytes)
     } else {

@@ -75,11 +75,9 @@ impl<'t> Lines<'t> {
         ensures number { IfOk result (λ line. line.number ≡ self.old.number + 1) }
         ensures moved { OnOk result (LinesMoved 1 self.old self.new) }
     {
-        let Some(line) = self.next() else {
-            return Err(Refusal::WrongLineCount {
-                line: self.number + 1,
-            });
-        };
+        let line = self.next().ok_or(Refusal::WrongLineCount {
+            line: self.number + 1,
+        })?;
         if is_printable(line.bytes) {
             Ok(line)
         } else {
