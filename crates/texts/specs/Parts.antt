@@ -1,6 +1,8 @@
 -- What a reader of fields has left, and what it hands out.
 use Rattle.std.specs.Prelude.{◌≡◌, ℕ, ◌+◌, List, [], ◌∷◌, drop, Some, None, Option}
 use Rattle.std.specs.Option.{option_copied}
+use Rattle.refusal.specs.declared.Refusal.{Refusal}
+use Rattle.refusal.specs.declared.Refusal.TheVariants.{WrongFieldCount}
 use Rattle.texts.specs.declared.lines.Line.{Line}
 use Rattle.texts.specs.declared.fields.Part.{Part}
 use Rattle.texts.specs.declared.fields.Fields.{Fields}
@@ -22,6 +24,11 @@ pub record PartGiven (was : Fields) (part : Part) (is : Fields) : Type 0 where
   pub counted : is.number ≡ was.number + 1
   pub same_line : is.line ≡ was.line
   pub left : words_left was ≡ part.bytes.now ∷ words_left is
+
+-- no word is left, which is told by the line
+pub record PartMissing (was : Fields) (e : Refusal) : Type 0 where
+  pub error : e ≡ WrongFieldCount was.line
+  pub left : words_left was ≡ []
 
 -- a reader with no field left stays as it is
 pub record FieldsEnded (was is : Fields) : Type 0 where

@@ -47,7 +47,7 @@ pub struct Instance<'t> {
 }
 
 // Why no instance was read: the text is refused, or there is no memory for the items.
-#[derive(Clone, Copy, Debug, PartialEq, Eq)]
+#[derive(Clone, Copy, Debug)]
 pub enum ReadError {
     Refused(Refusal),
     OutOfMemory,

@@ -1,8 +1,8 @@
 // Reading a line field by field.
-ghost use Rattle.std.specs.Prelude.{◌≡◌, ◌+◌, ◌≤◌, [], length, Ok, IfOk, MatchOption, OnOk, OnSome};
+ghost use Rattle.std.specs.Prelude.{◌≡◌, ◌+◌, ◌≤◌, [], length, Ok, IfOk, MatchOption, MatchResult, OnOk, OnSome};
 ghost use Rattle.texts.specs.Valid.{Within};
 ghost use Rattle.texts.specs.Words.{form};
-ghost use Rattle.texts.specs.Parts.{words_left, PartGiven, FieldsEnded, AllFields, Moved};
+ghost use Rattle.texts.specs.Parts.{words_left, PartGiven, PartMissing, FieldsEnded, AllFields, Moved};
 ghost use Rattle.texts.specs.Grammar.{and_then, just, shape, number_at, numbers_at, first_letter, sole_number, four_numbers};
 
 use super::{Field, Fields, Part};
@@ -59,11 +59,12 @@ impl<'t> Fields<'t> {
         }
     }
 
-    // The number of the line.
-    pub(crate) fn line(&self) -> usize
-        ensures { result ≡ self.now.line }
+    // The next field, which has to be there.
+    pub(crate) fn part(&mut self) -> Result<Part<'t>, Refusal>
+        ensures { MatchResult result (λ part. PartGiven self.old part self.new) (λ e. PartMissing self.old e) }
     {
-        self.line
+        self.next()
+            .ok_or(Refusal::WrongFieldCount { line: self.line })
     }
 
     // Whether just `n` fields are left, none of them empty.
@@ -95,19 +96,15 @@ impl<'t> Fields<'t> {
         ensures range { IfOk result (Within low high) }
         ensures moved { OnOk result (Moved 1 self.old self.new) }
     {
-        let part = self
-            .next()
-            .ok_or(Refusal::WrongFieldCount { line: self.line })?;
-        match classify(part.bytes) {
+        let Part {
+            bytes,
+            line,
+            number: field,
+        } = self.part()?;
+        match classify(bytes) {
             Field::Number(n) if (low..=high).contains(&n) => Ok(n),
-            Field::Number(_) => Err(Refusal::OutOfRange {
-                line: part.line,
-                field: part.number,
-            }),
-            _ => Err(Refusal::NotANumber {
-                line: part.line,
-                field: part.number,
-            }),
+            Field::Number(_) => Err(Refusal::OutOfRange { line, field }),
+            _ => Err(Refusal::NotANumber { line, field }),
         }
     }
 

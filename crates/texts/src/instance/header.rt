@@ -42,9 +42,9 @@ fn base_of(line: Line) -> Result<Base, Refusal>
 {
     let mut fields = Fields::new(line);
     match fields.letter() {
-        Some('L') => Ok(Base::Length(fields.sole_number(1, MAX_NUMBER)?)),
-        Some('V') => Ok(Base::Vector(fields.four_numbers()?)),
-        Some('C') => Ok(Base::Colours(fields.sole_number(0, MAX_COLOURS)?)),
+        Some('L') => fields.sole_number(1, MAX_NUMBER).map(Base::Length),
+        Some('V') => fields.four_numbers().map(Base::Vector),
+        Some('C') => fields.sole_number(0, MAX_COLOURS).map(Base::Colours),
         _ => Err(Refusal::UnknownLetter {
             line: line.number,
             field: 1,
@@ -89,9 +89,10 @@ fn read_second(lines: &mut Lines, limits: u32) -> Result<Option<u32>, Refusal>
     ensures moved { OnOk result (LinesMoved (limits - 1) lines.old lines.new) }
 {
     if limits < 2 {
-        return Ok(None);
+        Ok(None)
+    } else {
+        read_count_limit(lines).map(Some)
     }
-    Ok(Some(read_count_limit(lines)?))
 }
 
 // The section of limits.

@@ -9,7 +9,7 @@ ghost use Rattle.texts.specs.Split.{words};
 
 use super::header::{read_item_count, read_limits};
 use super::{Base, Instance, Limits, ReadError};
-use crate::fields::Fields;
+use crate::fields::{Fields, Part};
 use crate::lines::reading::check_text;
 use crate::lines::{Line, Lines};
 use packing::{Item, MAX_DEMAND, MAX_FIELDS, MAX_ITEMS};
@@ -37,16 +37,15 @@ fn name_of<'t>(fields: &mut Fields<'t>, items: &[Item]) -> Result<&'t [u8], Refu
     ensures value { seen result ≡ name_at fields.old.line (fields.old.number + 1) (names_in items.now) (words_left fields.old) }
     ensures moved { OnOk result (Moved 1 fields.old fields.new) }
 {
-    let part = fields.next().ok_or(Refusal::WrongFieldCount {
-        line: fields.line(),
-    })?;
-    if is_good_name(part.bytes, items) {
-        Ok(part.bytes)
+    let Part {
+        bytes,
+        line,
+        number: field,
+    } = fields.part()?;
+    if is_good_name(bytes, items) {
+        Ok(bytes)
     } else {
-        Err(Refusal::BadName {
-            line: part.line,
-            field: part.number,
-        })
+        Err(Refusal::BadName { line, field })
     }
 }
 
