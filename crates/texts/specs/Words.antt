@@ -22,6 +22,10 @@ no_leading_zero [] = false
 no_leading_zero (b ∷ []) = true
 no_leading_zero (b ∷ c ∷ bs) = not (b == 48)
 
+-- the number with one digit more, up to 1,000,000,000
+abbrev pub with_digit : ℕ → ℕ → Option ℕ
+with_digit n b = cond (is_ascii_digit b && nat_le (n * 10 + (b - 48)) 1000000000) (Some (n * 10 + (b - 48))) None
+
 -- a number of at most 1,000,000,000, where digits follow those of n
 unfoldable pub number_from : ℕ → List ℕ → Option ℕ
 number_from n bs = cond (all_digits bs && nat_le (value n bs) 1000000000) (Some (value n bs)) None
