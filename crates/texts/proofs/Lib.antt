@@ -7,4 +7,3 @@ pub mod Valid
 pub mod Written
 pub mod ReadBack
 pub mod WrittenText
-pub mod Whole

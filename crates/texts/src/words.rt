@@ -29,6 +29,7 @@ fn with_digit(n: u32, b: u8) -> Option<u32>
 }
 
 // The number that decimal digits without a leading zero spell, up to the largest.
+#[tactic(auto, using(crate::proofs::Numbers::number_next, crate::proofs::Numbers::number_end))]
 pub(crate) fn parse_decimal(bytes: &[u8]) -> Option<u32>
     ensures { result ≡ number_of bytes.now }
 {

@@ -1,6 +1,6 @@
 // The lines with a count, and the limit lines.
 ghost use Rattle.std.specs.Prelude.{◌≡◌, ◌+◌, ◌-◌, ◌≤◌, IfOk, OnOk};
-ghost use Rattle.texts.specs.Grammar.{and_then, count_at, base_of, base_at, count_limit_of, count_limit_at, second_at, items_section, sections};
+ghost use Rattle.texts.specs.Grammar.{and_then, sole_number, count_at, base_of, base_at, count_limit_of, count_limit_at, second_at, items_section, sections};
 ghost use Rattle.texts.specs.Readers.{lines_left, reading, LinesMoved};
 ghost use Rattle.texts.specs.Split.{words};
 ghost use Rattle.texts.specs.Valid.{Within};
@@ -18,13 +18,21 @@ pub const MAX_COLOURS: u32 = 64;
 // The highest limit on the items in a bin.
 pub const MAX_COUNT: u32 = 100_000;
 
-// A line of one number from `low` to `high`.
+// A line as one number from `low` to `high`.
+fn count_of(line: Line, low: u32, high: u32) -> Result<u32, Refusal>
+    ensures value { result ≡ sole_number low high line.entry.number 1 (words line.entry.bytes.now) }
+    ensures range { IfOk result (Within low high) }
+{
+    Fields::new(line).sole_number(low, high)
+}
+
+// The next line as one number from `low` to `high`.
 fn read_count(lines: &mut Lines, low: u32, high: u32) -> Result<u32, Refusal>
     ensures value { result ≡ count_at low high (lines.old.number + 1) (lines_left lines.old) }
     ensures range { IfOk result (Within low high) }
     ensures moved { OnOk result (LinesMoved 1 lines.old lines.new) }
 {
-    Fields::new(lines.line()?).sole_number(low, high)
+    count_of(lines.line()?, low, high)
 }
 
 // The line with the number of items.
@@ -96,6 +104,7 @@ fn read_second(lines: &mut Lines, limits: u32) -> Result<Option<u32>, Refusal>
 }
 
 // The section of limits.
+#[tactic(auto, unfolding(crate::specs::Grammar::section))]
 pub(crate) fn read_limits(lines: &mut Lines) -> Result<Limits, Refusal>
     ensures { reading sections lines.old
         ≡ and_then result (λ limits. reading (items_section limits.base limits.count) lines.new) }

@@ -78,6 +78,7 @@ fn read_item<'t>(lines: &mut Lines<'t>, base: Base, items: &[Item]) -> Result<It
 }
 
 // `n` items more, one to a line, into a table that has room for them.
+#[tactic(auto, using(crate::proofs::Items::items_step), unfolding(crate::specs::Grammar::items_at))]
 fn read_items<'t>(
     lines: &mut Lines<'t>,
     base: Base,
@@ -97,6 +98,7 @@ fn read_items<'t>(
 }
 
 // The section of items, which ends the text, into a table that has room for them.
+#[tactic(auto, unfolding(crate::specs::Grammar::section))]
 fn read_items_section<'t>(
     lines: &mut Lines<'t>,
     limits: Limits,
@@ -113,6 +115,7 @@ fn read_items_section<'t>(
 }
 
 // A text, whose items go into a table that has room for them.
+#[tactic(auto, unfolding(crate::specs::Grammar::reads))]
 fn read_text<'t>(text: &'t [u8], items: &mut Vec<Item<'t>>) -> Result<Limits, Refusal>
     requires { 64 ≤ vec_capacity items.old }
     ensures { reads text.now ≡ spelled result (entries_in items.new.items) }

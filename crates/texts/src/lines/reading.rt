@@ -54,6 +54,7 @@ impl<'t> Lines<'t> {
     }
 
     // The next line, whatever its bytes.
+    #[tactic(auto, using(crate::proofs::Splits::lines_none, crate::proofs::Splits::lines_cut))]
     pub(crate) fn next(&mut self) -> Option<Line<'t>>
         ensures { MatchOption result (LinesEnded self.old self.new) (λ line. LineGiven self.old line self.new) }
     {

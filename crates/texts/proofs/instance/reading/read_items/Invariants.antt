@@ -8,5 +8,5 @@ abbrev pub invariant-loop : goal.invariant-loop
 invariant-loop l = record {
   room : vec_len l.items + (l.n - l.counter) ≤ vec_capacity l.items;
   moved : LinesMoved l.counter l.initial.lines l.lines;
-  read : items_at (field_count_of l.base) (l.initial.lines.number + l.counter + 1) (l.n - l.counter) (lines_left l.lines) (entries_in (vec_items l.items)) ≡ items_at (field_count_of l.base) (l.initial.lines.number + 1) l.n (lines_left l.initial.lines) (entries_in (vec_items l.initial.items));
+  read : items_at (field_count_of l.base) (l.lines.number + 1) (l.n - l.counter) (lines_left l.lines) (entries_in (vec_items l.items)) ≡ items_at (field_count_of l.base) (l.initial.lines.number + 1) l.n (lines_left l.initial.lines) (entries_in (vec_items l.initial.items));
 }
