@@ -1,4 +1,4 @@
-// Each table, and the texts that are built here.
+// Each table, and texts that are built here.
 use crate::tables::*;
 use refusal::Numbers;
 use std::alloc::{AllocError, Global};
@@ -9,15 +9,15 @@ use texts::{Base, Instance, Limits, ReadError, read_instance};
 // Each text gets its refusal, and leaves no items.
 fn check_refused(rt: &impl Abort, alloc: Global, cases: &[Refused]) -> Result<(), Fail> {
     let mut instance = Instance::new(alloc)?;
-    for case in cases {
-        let [number, layer, a, b] = case.1;
+    for (text, place) in cases {
+        let [number, layer, a, b] = *place;
         let expected = Numbers {
             number,
             layer,
             a,
             b,
         };
-        match read_instance(case.0, &mut instance) {
+        match read_instance(text, &mut instance) {
             Err(ReadError::Refused(refusal)) => assert_eq!(rt; refusal.numbers(), expected),
             _ => assert!(rt; false),
         }
@@ -27,39 +27,21 @@ fn check_refused(rt: &impl Abort, alloc: Global, cases: &[Refused]) -> Result<()
 }
 
 #[test]
-fn bytes(rt: HostRuntime) -> Result<(), Fail> {
-    check_refused(&rt, rt.alloc(), &BAD_BYTES)
-}
-
-#[test]
-fn numbers(rt: HostRuntime) -> Result<(), Fail> {
-    check_refused(&rt, rt.alloc(), &NO_NUMBERS)
-}
-
-#[test]
-fn field_counts(rt: HostRuntime) -> Result<(), Fail> {
-    check_refused(&rt, rt.alloc(), &WRONG_FIELD_COUNTS)
-}
-
-#[test]
-fn letters(rt: HostRuntime) -> Result<(), Fail> {
-    check_refused(&rt, rt.alloc(), &UNKNOWN_LETTERS)
-}
-
-#[test]
-fn ranges(rt: HostRuntime) -> Result<(), Fail> {
-    check_refused(&rt, rt.alloc(), &OUT_OF_RANGE)
-}
-
-#[test]
-fn names(rt: HostRuntime) -> Result<(), Fail> {
-    check_refused(&rt, rt.alloc(), &BAD_NAMES)
-}
-
-#[test]
-fn ends(rt: HostRuntime) -> Result<(), Fail> {
-    check_refused(&rt, rt.alloc(), &MALFORMED)?;
-    check_refused(&rt, rt.alloc(), &WRONG_LINE_COUNTS)
+fn refusals(rt: HostRuntime) -> Result<(), Fail> {
+    let tables = [
+        &BAD_BYTES[..],
+        &NO_NUMBERS[..],
+        &WRONG_FIELD_COUNTS[..],
+        &UNKNOWN_LETTERS[..],
+        &OUT_OF_RANGE[..],
+        &BAD_NAMES[..],
+        &MALFORMED[..],
+        &WRONG_LINE_COUNTS[..],
+    ];
+    for table in tables {
+        check_refused(&rt, rt.alloc(), table)?;
+    }
+    Ok(())
 }
 
 // A text of line feeds only: its first line is empty, unless the text is too long.
@@ -81,9 +63,9 @@ fn instances(rt: HostRuntime) -> Result<(), Fail> {
     };
     let items = Vec::new(rt.alloc());
     let mut instance = Instance { limits, items };
-    for case in &SPELLED {
-        read_instance(case.0, &mut instance)?;
-        assert_eq!(rt; instance.items.len(), case.1);
+    for (text, n) in &SPELLED {
+        read_instance(text, &mut instance)?;
+        assert_eq!(rt; instance.items.len(), *n);
     }
     Ok(())
 }

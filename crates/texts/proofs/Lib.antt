@@ -2,11 +2,8 @@ pub mod Splits
 pub mod Numbers
 pub mod Counts
 pub mod Readers
-pub mod Printing
 pub mod Items
-pub mod LimitLines
 pub mod Valid
 pub mod Written
 pub mod ReadBack
 pub mod WrittenText
-pub mod Whole

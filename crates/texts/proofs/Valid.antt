@@ -10,8 +10,11 @@ use Rattle.refusal.specs.declared.Refusal.{Refusal}
 use Rattle.refusal.specs.declared.Refusal.TheVariants.{UnknownLetter}
 use Rattle.texts.specs.declared.instance.Base.{Base}
 use Rattle.texts.specs.declared.instance.Base.TheVariants.{Length, Vector, Colours}
-use Rattle.texts.specs.Split.{onto, lines, words}
-use Rattle.texts.specs.Words.{Form, word, number, letter, form}
+use Rattle.std.specs.List.{onto_first}
+use Rattle.texts.specs.Split.{lines, words}
+use Rattle.texts.specs.declared.fields.Field.{Field}
+use Rattle.texts.specs.declared.fields.Field.TheVariants.{Word, Number, Letter}
+use Rattle.texts.specs.Words.{form}
 use Rattle.texts.specs.Grammar.{Read, Entry, Spelled, and_then, shape, number_in, number_at, numbers_at, sole_number, four_numbers, prints_of, printable, line_at, end_at, count_at, first_letter, base_by, base_of, base_at, count_limit_by, count_limit_of, count_limit_at, second_at, known, good_name, name_at, field_count_of, item_of, item_at, items_at, names_of, section, text_end, item_lines, items_section, second_line, limit_lines, sections, formed, reads}
 use Rattle.texts.specs.Valid.{Within, Name, Item, Limit, CountLimit, Distinct, OnLines, first_item, Valid, ReadsValid}
 
@@ -32,10 +35,10 @@ passed : {A : Type 0} (t : Bool) (a : A) (e : Refusal) (b : A) → cond t (Ok a)
 passed true a e b h = (refl, cc)
 passed false a e b h = absurd (ok_not e b h)
 
-number_within : (low high line k : ℕ) (f : Form) (n : ℕ) → number_in low high line k f ≡ Ok n → Within low high n
-number_within low high line k word n h = absurd (ok_not _ n h)
-number_within low high line k (letter c) n h = absurd (ok_not _ n h)
-number_within low high line k (number m) n h =
+number_within : (low high line k : ℕ) (f : Field) (n : ℕ) → number_in low high line k f ≡ Ok n → Within low high n
+number_within low high line k Word n h = absurd (ok_not _ n h)
+number_within low high line k (Letter c) n h = absurd (ok_not _ n h)
+number_within low high line k (Number m) n h =
     let p = passed (leb low m && leb m high) m _ n h in
     let q = and_parts _ _ p.0 in
     subst (Within low high) p.1 (leb-true low m q.0, leb-true m high q.1)
@@ -59,7 +62,7 @@ numbers_within line k (suc n) ws xs ys h a =
 
 -- Names
 
-all_onto : (b : ℕ) (ws : List (List ℕ)) → Within 33 126 b → AllByRecursion (AllByRecursion (Within 33 126)) ws → AllByRecursion (AllByRecursion (Within 33 126)) (onto b ws)
+all_onto : (b : ℕ) (ws : List (List ℕ)) → Within 33 126 b → AllByRecursion (AllByRecursion (Within 33 126)) ws → AllByRecursion (AllByRecursion (Within 33 126)) (onto_first b ws)
 all_onto b [] p a = ((p, tt), tt)
 all_onto b (w ∷ ws) p a = ((p, a.0), a.1)
 
@@ -70,7 +73,7 @@ words_printable (b ∷ bs) h =
     let p = and_parts (prints_of b) (printable bs) h in
     let q = and_parts (leb 32 b) (leb b 126) p.0 in
     let on = words_printable bs p.1 in
-    cond_both (eqb b 32) ([] ∷ words bs) (onto b (words bs)) (AllByRecursion (AllByRecursion (Within 33 126))) (λ e. (tt, on)) (λ e.
+    cond_both (eqb b 32) ([] ∷ words bs) (onto_first b (words bs)) (AllByRecursion (AllByRecursion (Within 33 126))) (λ e. (tt, on)) (λ e.
     let low = leb-true 32 b q.0 in
     let high = leb-true b 126 q.1 in
     let other = eqb-false b 32 e in

@@ -6,8 +6,10 @@ use Rattle.std.proofs.lemmas.Fmt.{decimal_digit, digits_decimal, digits_value-de
 use Rattle.std.proofs.lemmas.Str.Parse.{IsNumeralModel, numerals_by_fold}
 use Rattle.std.proofs.lemmas.Bool.{and_parts, and_from, le-leb, ne_eqb, leb-true, not_from_false, both_ways, cond-true, cond-false}
 use Rattle.std.proofs.lemmas.Bool.Decides.{nat_tests}
-use Rattle.texts.specs.Split.{onto, lines, words}
-use Rattle.texts.specs.Words.{number, form, numeric, number_of, all_digits, value, no_leading_zero, number_from}
+use Rattle.std.specs.List.{onto_first}
+use Rattle.texts.specs.declared.fields.Field.TheVariants.{Number}
+use Rattle.texts.specs.Split.{lines, words}
+use Rattle.texts.specs.Words.{form, numeric, number_of, all_digits, value, no_leading_zero, number_from}
 use Rattle.texts.specs.Grammar.{printable}
 use Rattle.texts.specs.Valid.{Within}
 use Rattle.texts.specs.Written.{spaced, text_of}
@@ -26,12 +28,12 @@ other low b mark h l = ne_eqb b mark (λ e. omega arith)
 first_word : (w : List ℕ) (rest : List ℕ) → AllByRecursion (Within 33 126) w → words (w ++ 32 ∷ rest) ≡ w ∷ words rest
 unfolding words
 first_word [] rest a = refl
-first_word (b ∷ w) rest a = cond-false _ _ _ (other 33 b 32 a.0.0 (omega arith)) ∙ ap (onto b) (first_word w rest a.1)
+first_word (b ∷ w) rest a = cond-false _ _ _ (other 33 b 32 a.0.0 (omega arith)) ∙ ap (onto_first b) (first_word w rest a.1)
 
 last_word : (w : List ℕ) → AllByRecursion (Within 33 126) w → words w ≡ w ∷ []
 unfolding words
 last_word [] a = refl
-last_word (b ∷ w) a = cond-false _ _ _ (other 33 b 32 a.0.0 (omega arith)) ∙ ap (onto b) (last_word w a.1)
+last_word (b ∷ w) a = cond-false _ _ _ (other 33 b 32 a.0.0 (omega arith)) ∙ ap (onto_first b) (last_word w a.1)
 
 pub words_spaced : (w : List ℕ) (ws : List (List ℕ)) → AllByRecursion Clean (w ∷ ws) → words (spaced (w ∷ ws)) ≡ w ∷ ws
 words_spaced w [] a = last_word w a.0.bytes
@@ -63,7 +65,7 @@ line_printable (b ∷ x) a = and_from _ _ (and_from _ _ (le-leb 32 b a.0.0) (le-
 first_line : (x rest : List ℕ) → Line x → lines (x ++ 10 ∷ rest) ≡ x ∷ lines rest
 unfolding lines
 first_line [] rest a = refl
-first_line (b ∷ x) rest a = cond-false _ _ _ (other 32 b 10 a.0.0 (omega arith)) ∙ ap (onto b) (first_line x rest a.1)
+first_line (b ∷ x) rest a = cond-false _ _ _ (other 32 b 10 a.0.0 (omega arith)) ∙ ap (onto_first b) (first_line x rest a.1)
 
 pub lines_text : (ls : List (List (List ℕ))) → AllByRecursion (AllByRecursion Clean) ls → lines (text_of ls) ≡ map spaced ls
 unfolding lines
@@ -82,7 +84,7 @@ number_digits : (bs : List ℕ) (n : ℕ) → all_digits bs ≡ true → no_lead
 unfolding number_from
 number_digits bs n d z v h = cond-true _ _ _ z ∙ cond-true _ _ _ (and_from _ _ d (le-leb (value 0 bs) 1000000000 (omega arith))) ∙ ap Some v
 
-form_digits : (bs : List ℕ) (n : ℕ) → all_digits bs ≡ true → no_leading_zero bs ≡ true → value 0 bs ≡ n → n ≤ 1000000000 → form bs ≡ number n
+form_digits : (bs : List ℕ) (n : ℕ) → all_digits bs ≡ true → no_leading_zero bs ≡ true → value 0 bs ≡ n → n ≤ 1000000000 → form bs ≡ Number n
 form_digits [] n d z v h = absurd (both_ways false refl z)
 form_digits (b ∷ []) n d z v h = cond-false _ _ _ (digit_letter b (and_parts (is_ascii_digit b) true d).0) ∙ ap numeric (number_digits (b ∷ []) n d z v h)
 form_digits (b ∷ c ∷ bs) n d z v h = ap numeric (number_digits (b ∷ c ∷ bs) n d z v h)
@@ -105,7 +107,7 @@ decimal_starts : (n : ℕ) → n ≤ 1000000000 → no_leading_zero (decimal n) 
 decimal_starts zero h = ap no_leading_zero (decimal_digit 0 (omega arith))
 decimal_starts (suc n) h = no_zero _ (decimal_nonempty (suc n) (omega arith)) (first_decimal (suc n) (omega arith) (omega arith))
 
-pub decimal_form : (n : ℕ) → n ≤ 1000000000 → form (decimal n) ≡ number n
+pub decimal_form : (n : ℕ) → n ≤ 1000000000 → form (decimal n) ≡ Number n
 decimal_form n h = form_digits (decimal n) n (digits_decimal own n (omega arith)) (decimal_starts n h) (digits_value-decimal own n (omega arith)) h
 
 pub decimal_clean : (n : ℕ) → n ≤ 1000000000 → Clean (decimal n)

@@ -1,7 +1,8 @@
 -- The instance text: which instance it spells, or why it is refused. Lines are counted from 1, and so are the words of a
 -- line, which are its fields.
-use Rattle.std.specs.Prelude.{ℕ, zero, suc, ◌+◌, ◌-◌, Bool, true, false, cond, not, ◌&&◌, ◌||◌, List, [], ◌∷◌, ◌++◌, map, length, take, drop, Some, None, Ok, Err, Option, Result, ◌==◌, nat_le, slice_index}
+use Rattle.std.specs.Prelude.{ℕ, zero, suc, ◌+◌, ◌-◌, Bool, true, false, cond, not, ◌&&◌, List, [], ◌∷◌, ◌++◌, map, length, drop, Some, None, Ok, Err, Option, Result, ◌==◌, nat_le, slice_index}
 use Rattle.std.specs.Char.{is_ascii_digit}
+use Rattle.std.specs.List.{list_all, list_any}
 use Rattle.std.specs.Str.{bytes_eq}
 use Rattle.refusal.specs.declared.Refusal.{Refusal}
 use Rattle.refusal.specs.declared.Refusal.TheVariants.{BadByte, NotANumber, WrongFieldCount, UnknownLetter, OutOfRange, BadName, MalformedText, WrongLineCount}
@@ -9,7 +10,9 @@ use Rattle.texts.specs.declared.instance.Base.{Base}
 use Rattle.texts.specs.declared.instance.Base.TheVariants.{Length, Vector, Colours}
 use Rattle.texts.specs.declared.instance.Limits.{Limits}
 use Rattle.texts.specs.Split.{lines, words}
-use Rattle.texts.specs.Words.{Form, word, number, letter, form}
+use Rattle.texts.specs.declared.fields.Field.{Field}
+use Rattle.texts.specs.declared.fields.Field.TheVariants.{Word, Number, Letter}
+use Rattle.texts.specs.Words.{form}
 
 -- what was read, or a refusal
 abbrev pub Read : Type 0 → Type 0
@@ -19,10 +22,6 @@ Read A = Result A Refusal
 abbrev pub and_then : {A B : Type 0} → Read A → (A → Read B) → Read B
 and_then (Ok a) f = f a
 and_then (Err e) f = Err e
-
--- the first n of what was read
-abbrev pub firsts : ℕ → Read (List ℕ) → Read (List ℕ)
-firsts n r = and_then r (λ xs. Ok (take n xs))
 
 -- A line from its word number k on
 
@@ -39,10 +38,10 @@ abbrev pub shape : (line n : ℕ) → List (List ℕ) → Read (Unit {0})
 shape line n ws = cond (just n ws) (Ok tt) (Err (WrongFieldCount line))
 
 -- a word of some form as a number in a range: its form comes first
-abbrev pub number_in : (low high line k : ℕ) → Form → Read ℕ
-number_in low high line k word = Err (NotANumber line k)
-number_in low high line k (number n) = cond (nat_le low n && nat_le n high) (Ok n) (Err (OutOfRange line k))
-number_in low high line k (letter c) = Err (NotANumber line k)
+abbrev pub number_in : (low high line k : ℕ) → Field → Read ℕ
+number_in low high line k Word = Err (NotANumber line k)
+number_in low high line k (Number n) = cond (nat_le low n && nat_le n high) (Ok n) (Err (OutOfRange line k))
+number_in low high line k (Letter c) = Err (NotANumber line k)
 
 -- the next word as a number in a range
 abbrev pub number_at : (low high line k : ℕ) → List (List ℕ) → Read ℕ
@@ -71,8 +70,7 @@ prints_of b = nat_le 32 b && nat_le b 126
 
 -- all bytes are printable ASCII
 abbrev pub printable : List ℕ → Bool
-printable [] = true
-printable (b ∷ bs) = prints_of b && printable bs
+printable bs = list_all prints_of bs
 
 -- the next line, which has to be there and to be printable
 abbrev pub line_at : (line : ℕ) → List (List ℕ) → Read (List ℕ)
@@ -89,10 +87,10 @@ abbrev pub count_at : (low high line : ℕ) → List (List ℕ) → Read ℕ
 count_at low high line ls = and_then (line_at line ls) (λ x. sole_number low high line 1 (words x))
 
 -- the letter that a limit line begins with
-abbrev pub letter_in : Form → Option ℕ
-letter_in word = None
-letter_in (number n) = None
-letter_in (letter c) = Some c
+abbrev pub letter_in : Field → Option ℕ
+letter_in Word = None
+letter_in (Number n) = None
+letter_in (Letter c) = Some c
 
 -- the letter that stands first in a line, if one does
 abbrev pub first_letter : List (List ℕ) → Option ℕ
@@ -144,8 +142,7 @@ pub record Entry : Type 0 where
 
 -- whether a name is among others
 abbrev pub known : List ℕ → List (List ℕ) → Bool
-known w [] = false
-known w (n ∷ ns) = bytes_eq n w || known w ns
+known w names = list_any (λ n. bytes_eq n w) names
 
 -- 1 to 16 bytes, no digit first, and none of the earlier names
 abbrev pub good_name : List (List ℕ) → List ℕ → Bool

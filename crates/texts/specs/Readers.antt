@@ -1,25 +1,20 @@
 -- What a reader of lines has left, and what it hands out.
-use Rattle.std.specs.Prelude.{◌≡◌, ℕ, ◌+◌, List, [], ◌∷◌, length, take, drop, Ok}
+use Rattle.std.specs.Prelude.{◌≡◌, ℕ, ◌+◌, List, [], ◌∷◌, drop, Ok}
 use Rattle.std.specs.Borrow.{Bor}
 use Rattle.texts.specs.Grammar.{Read, and_then}
+use Rattle.texts.specs.declared.lines.Line.{Line}
 use Rattle.texts.specs.declared.lines.Lines.{Lines}
-use Rattle.texts.specs.Split.{span, lines}
-
--- the bytes from the place of the reader on
-abbrev pub rest : Lines → List ℕ
-rest r = drop r.at r.text.now
+use Rattle.texts.specs.Split.{lines}
 
 -- the lines that are yet to come
 abbrev pub lines_left : Lines → List (List ℕ)
-lines_left r = lines (rest r)
+lines_left r = lines r.rest.now
 
--- a reader handed out the part of its text from its place to the next line feed, and stands after that
-pub record LineGiven (was : Lines) (line : List ℕ) (is : Lines) : Type 0 where
-  pub text : is.text.now ≡ was.text.now
-  pub part : line ≡ take (span 10 (rest was)) (rest was)
-  pub at : is.at ≡ was.at + length line + 1
-  pub number : is.number ≡ was.number + 1
-  pub left : lines_left was ≡ line ∷ lines_left is
+-- a reader handed out the next line, with its number
+pub record LineGiven (was : Lines) (line : Line) (is : Lines) : Type 0 where
+  pub number : line.number ≡ was.number + 1
+  pub counted : is.number ≡ was.number + 1
+  pub left : lines_left was ≡ line.bytes.now ∷ lines_left is
 
 -- a reader with no line left stays as it is
 pub record LinesEnded (was is : Lines) : Type 0 where
@@ -28,7 +23,6 @@ pub record LinesEnded (was is : Lines) : Type 0 where
 
 -- a reader of a whole text
 pub record AllLines (bytes : List ℕ) (is : Lines) : Type 0 where
-  pub text : is.text.now ≡ bytes
   pub number : is.number ≡ 0
   pub left : lines_left is ≡ lines bytes
 
@@ -41,6 +35,10 @@ pub record LinesMoved (n : ℕ) (was is : Lines) : Type 0 where
 abbrev pub reading : {A : Type 0} → (ℕ → List (List ℕ) → Read A) → Lines → Read A
 reading part r = part r.number (lines_left r)
 
--- what is read of a line, by its bytes
+-- what is read of a part of the text, by its bytes
 abbrev pub seen : Read (Bor (List ℕ)) → Read (List ℕ)
 seen r = and_then r (λ x. Ok x.now)
+
+-- the same of a line
+abbrev pub line_seen : Read Line → Read (List ℕ)
+line_seen r = and_then r (λ l. Ok l.bytes.now)

@@ -1,5 +1,6 @@
 // The fields of a line, parted by single spaces, each a part of the line with its place.
-ghost use Rattle.std.specs.Prelude.{◌+◌, ◌≤◌, length};
+ghost use Rattle.std.specs.Prelude.{◌+◌, ◌^◌, ◌<◌, length};
+ghost use Rattle.std.specs.Option.{ForSome};
 
 pub mod reading;
 
@@ -13,22 +14,20 @@ pub struct Part<'t> {
 
 // A field by its form: one letter, a decimal number, or any other word.
 #[derive(Clone, Copy)]
-pub enum Field<'t> {
-    Word(Part<'t>),
-    Number(Part<'t>, u32),
-    Letter(Part<'t>, char),
+pub enum Field {
+    Word,
+    Number(u32),
+    Letter(char),
 }
 
 // A reader of the fields of one line.
 #[derive(Clone, Copy)]
 pub struct Fields<'t> {
-    text: &'t [u8],
+    // what is yet to be read, unless the line has ended
+    rest: Option<&'t [u8]>,
     // the number of the line
     line: usize,
-    // where the next field begins; past the end of the line where none is left
-    at: usize,
     // how many fields were handed out
     number: usize,
-    ghost counted: { number ≤ at },
-    ghost inside: { at ≤ length text.now + 1 },
+    ghost counted: { ForSome rest (λ bytes. number + length bytes.now < 2 ^ 63) },
 }

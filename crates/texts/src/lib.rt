@@ -5,6 +5,7 @@ pub mod fields;
 pub mod instance;
 pub mod laws;
 pub mod lines;
+mod split;
 pub mod words;
 
 pub use instance::reading::read_instance;

@@ -1,37 +1,21 @@
 // Lines of a text, each ended by a line feed, handed out one by one as parts of the text itself.
-ghost use Rattle.std.specs.Prelude.{◌≡◌, ◌+◌, ◌≤◌, length, drop};
-ghost use Rattle.texts.specs.Split.{span};
+ghost use Rattle.std.specs.Prelude.{◌+◌, ◌^◌, ◌<◌, length};
 
 pub mod reading;
 
-// How many bytes stand before the first `mark`; all of them where there is none.
-pub(crate) fn span_of(bytes: &[u8], mark: u8) -> usize
-    ensures { result ≡ span mark bytes.now }
-{
-    let mut n = 0;
-    while n < bytes.len() && bytes[n] != mark {
-        n += 1;
-    }
-    n
-}
-
-// Where the part of a text that begins at `start` ends: at the next `mark`, or at the end of the text.
-pub(crate) fn end_of(text: &[u8], start: usize, mark: u8) -> usize
-    requires { start ≤ length text.now }
-    ensures is { result ≡ start + span mark (drop start text.now) }
-    ensures inside { result ≤ length text.now }
-{
-    start + span_of(&text[start..text.len()], mark)
+// A line, without its line feed, and its number in the text, counted from 1.
+#[derive(Clone, Copy)]
+pub struct Line<'t> {
+    pub bytes: &'t [u8],
+    pub number: usize,
 }
 
 // A reader of the lines of a text.
 #[derive(Clone, Copy)]
 pub struct Lines<'t> {
-    text: &'t [u8],
-    // where the next line begins
-    at: usize,
+    // what is yet to be read
+    rest: &'t [u8],
     // how many lines were handed out
     number: usize,
-    ghost counted: { number ≤ at },
-    ghost inside: { at ≤ length text.now + 1 },
+    ghost counted: { number + length rest.now < 2 ^ 63 },
 }

@@ -1,6 +1,6 @@
 // Decimal numbers.
-ghost use Rattle.std.specs.Prelude.{◌≡◌};
-ghost use Rattle.texts.specs.Words.{no_leading_zero, number_of};
+ghost use Rattle.std.specs.Prelude.{◌≡◌, ◌≤◌, IfSome};
+ghost use Rattle.texts.specs.Words.{no_leading_zero, number_of, with_digit};
 
 // The largest number that a text may hold.
 pub const MAX_NUMBER: u32 = 1_000_000_000;
@@ -16,22 +16,29 @@ fn starts_well(bytes: &[u8]) -> bool
     }
 }
 
+// The number with one digit more at its end, up to the largest.
+fn with_digit(n: u32, b: u8) -> Option<u32>
+    ensures value { result ≡ with_digit n b }
+    ensures small { IfSome result (λ m. m ≤ 1000000000) }
+{
+    if !b.is_ascii_digit() {
+        return None;
+    }
+    let n = u64::from(n) * 10 + u64::from(b - b'0');
+    u32::try_from(n).ok().filter(|n| *n <= MAX_NUMBER)
+}
+
 // The number that decimal digits without a leading zero spell, up to the largest.
+#[tactic(auto, using(crate::proofs::Numbers::number_next, crate::proofs::Numbers::number_end))]
 pub(crate) fn parse_decimal(bytes: &[u8]) -> Option<u32>
     ensures { result ≡ number_of bytes.now }
 {
     if !starts_well(bytes) {
         return None;
     }
-    let mut n: u64 = 0;
+    let mut n = 0;
     for b in bytes {
-        if !b.is_ascii_digit() {
-            return None;
-        }
-        n = n * 10 + u64::from(*b - b'0');
-        if n > MAX_NUMBER as u64 {
-            return None;
-        }
+        n = with_digit(n, *b)?;
     }
-    Some(n as u32)
+    Some(n)
 }

@@ -1,12 +1,13 @@
 // The lines with a count, and the limit lines.
 ghost use Rattle.std.specs.Prelude.{◌≡◌, ◌+◌, ◌-◌, ◌≤◌, IfOk, OnOk};
-ghost use Rattle.texts.specs.Grammar.{and_then, count_at, base_of, base_at, count_limit_of, count_limit_at, second_at, items_section, sections};
-ghost use Rattle.texts.specs.Parts.{words_left};
+ghost use Rattle.texts.specs.Grammar.{and_then, sole_number, count_at, base_of, base_at, count_limit_of, count_limit_at, second_at, items_section, sections};
 ghost use Rattle.texts.specs.Readers.{lines_left, reading, LinesMoved};
+ghost use Rattle.texts.specs.Split.{words};
+ghost use Rattle.texts.specs.Valid.{Within};
 
 use super::{Base, Limits};
 use crate::fields::Fields;
-use crate::lines::Lines;
+use crate::lines::{Line, Lines};
 use crate::words::MAX_NUMBER;
 use packing::MAX_ITEMS;
 use refusal::Refusal;
@@ -17,14 +18,21 @@ pub const MAX_COLOURS: u32 = 64;
 // The highest limit on the items in a bin.
 pub const MAX_COUNT: u32 = 100_000;
 
-// A line of one number from `low` to `high`.
+// A line as one number from `low` to `high`.
+fn count_of(line: Line, low: u32, high: u32) -> Result<u32, Refusal>
+    ensures value { result ≡ sole_number low high line.entry.number 1 (words line.entry.bytes.now) }
+    ensures range { IfOk result (Within low high) }
+{
+    Fields::new(line).sole_number(low, high)
+}
+
+// The next line as one number from `low` to `high`.
 fn read_count(lines: &mut Lines, low: u32, high: u32) -> Result<u32, Refusal>
     ensures value { result ≡ count_at low high (lines.old.number + 1) (lines_left lines.old) }
-    ensures range { IfOk result (λ n. (low ≤ n) × (n ≤ high)) }
+    ensures range { IfOk result (Within low high) }
     ensures moved { OnOk result (LinesMoved 1 lines.old lines.new) }
 {
-    let line = lines.line()?;
-    Fields::new(line, lines.number()).sole_number(low, high)
+    count_of(lines.line()?, low, high)
 }
 
 // The line with the number of items.
@@ -37,16 +45,18 @@ pub(crate) fn read_item_count(lines: &mut Lines) -> Result<u32, Refusal>
 }
 
 // A letter and the limits that it asks for.
-fn base_of(mut fields: Fields) -> Result<Base, Refusal>
-    requires { fields.number ≡ 0 }
-    ensures { result ≡ base_of fields.entry.line (words_left fields.entry) }
+fn base_of(line: Line) -> Result<Base, Refusal>
+    ensures { result ≡ base_of line.entry.number (words line.entry.bytes.now) }
 {
-    let line = fields.line();
+    let mut fields = Fields::new(line);
     match fields.letter() {
-        Some('L') => Ok(Base::Length(fields.sole_number(1, MAX_NUMBER)?)),
-        Some('V') => Ok(Base::Vector(fields.four_numbers()?)),
-        Some('C') => Ok(Base::Colours(fields.sole_number(0, MAX_COLOURS)?)),
-        _ => Err(Refusal::UnknownLetter { line, field: 1 }),
+        Some('L') => fields.sole_number(1, MAX_NUMBER).map(Base::Length),
+        Some('V') => fields.four_numbers().map(Base::Vector),
+        Some('C') => fields.sole_number(0, MAX_COLOURS).map(Base::Colours),
+        _ => Err(Refusal::UnknownLetter {
+            line: line.number,
+            field: 1,
+        }),
     }
 }
 
@@ -55,19 +65,20 @@ fn read_base(lines: &mut Lines) -> Result<Base, Refusal>
     ensures value { result ≡ base_at (lines.old.number + 1) (lines_left lines.old) }
     ensures moved { OnOk result (LinesMoved 1 lines.old lines.new) }
 {
-    let line = lines.line()?;
-    base_of(Fields::new(line, lines.number()))
+    base_of(lines.line()?)
 }
 
 // The letter N and the limit on the number of items.
-fn count_limit_of(mut fields: Fields) -> Result<u32, Refusal>
-    requires { fields.number ≡ 0 }
-    ensures { result ≡ count_limit_of fields.entry.line (words_left fields.entry) }
+fn count_limit_of(line: Line) -> Result<u32, Refusal>
+    ensures { result ≡ count_limit_of line.entry.number (words line.entry.bytes.now) }
 {
-    let line = fields.line();
+    let mut fields = Fields::new(line);
     match fields.letter() {
         Some('N') => fields.sole_number(1, MAX_COUNT),
-        _ => Err(Refusal::UnknownLetter { line, field: 1 }),
+        _ => Err(Refusal::UnknownLetter {
+            line: line.number,
+            field: 1,
+        }),
     }
 }
 
@@ -76,23 +87,24 @@ fn read_count_limit(lines: &mut Lines) -> Result<u32, Refusal>
     ensures value { result ≡ count_limit_at (lines.old.number + 1) (lines_left lines.old) }
     ensures moved { OnOk result (LinesMoved 1 lines.old lines.new) }
 {
-    let line = lines.line()?;
-    count_limit_of(Fields::new(line, lines.number()))
+    count_limit_of(lines.line()?)
 }
 
 // The second limit line, if there are two.
 fn read_second(lines: &mut Lines, limits: u32) -> Result<Option<u32>, Refusal>
-    requires { (1 ≤ limits) × (limits ≤ 2) }
+    requires { limits ≤ 2 }
     ensures value { result ≡ second_at limits (lines.old.number + 1) (lines_left lines.old) }
     ensures moved { OnOk result (LinesMoved (limits - 1) lines.old lines.new) }
 {
     if limits < 2 {
-        return Ok(None);
+        Ok(None)
+    } else {
+        read_count_limit(lines).map(Some)
     }
-    Ok(Some(read_count_limit(lines)?))
 }
 
 // The section of limits.
+#[tactic(auto, unfolding(crate::specs::Grammar::section))]
 pub(crate) fn read_limits(lines: &mut Lines) -> Result<Limits, Refusal>
     ensures { reading sections lines.old
         ≡ and_then result (λ limits. reading (items_section limits.base limits.count) lines.new) }

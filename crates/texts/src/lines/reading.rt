@@ -1,9 +1,10 @@
 // Reading a text line by line.
-ghost use Rattle.std.specs.Prelude.{◌≡◌, ◌+◌, MatchOption, OnOk};
+ghost use Rattle.std.specs.Prelude.{◌≡◌, ◌+◌, IfOk, MatchOption, OnOk};
 ghost use Rattle.texts.specs.Grammar.{prints_of, printable, line_at, end_at, well_formed, formed};
-ghost use Rattle.texts.specs.Readers.{lines_left, AllLines, LineGiven, LinesEnded, LinesMoved, seen};
+ghost use Rattle.texts.specs.Readers.{lines_left, AllLines, LineGiven, LinesEnded, LinesMoved, line_seen};
 
-use super::{Lines, end_of};
+use super::{Line, Lines};
+use crate::split::split_once;
 use refusal::Refusal;
 
 // The most bytes of a text.
@@ -13,27 +14,21 @@ pub const MAX_TEXT: usize = 65_536;
 fn prints(b: u8) -> bool
     ensures { result ≡ prints_of b }
 {
-    b' ' <= b && b <= b'~'
+    (b' '..=b'~').contains(&b)
 }
 
 // Whether all bytes are printable ASCII.
 fn is_printable(bytes: &[u8]) -> bool
     ensures { result ≡ printable bytes.now }
 {
-    for b in bytes {
-        if !prints(*b) {
-            return false;
-        }
-    }
-    true
+    bytes.iter().all(|b| prints(*b))
 }
 
 // Whether a text has 1 to `MAX_TEXT` bytes and ends with a line feed.
 fn is_well_formed(text: &[u8]) -> bool
     ensures { result ≡ well_formed text.now }
 {
-    let n = text.len();
-    n > 0 && n <= MAX_TEXT && text[n - 1] == b'\n'
+    text.len() <= MAX_TEXT && text.ends_with(b"\n")
 }
 
 // Refuses a text that is empty, too long or without its last line feed.
@@ -53,48 +48,41 @@ impl<'t> Lines<'t> {
         ensures { AllLines text.now result }
     {
         Lines {
-            text,
-            at: 0,
+            rest: text,
             number: 0,
         }
     }
 
-    // How many lines were handed out, which is the number of the latest.
-    pub(crate) fn number(&self) -> usize
-        ensures { result ≡ self.now.number }
+    // The next line, whatever its bytes.
+    #[tactic(auto, using(crate::proofs::Splits::lines_none, crate::proofs::Splits::lines_cut))]
+    pub(crate) fn next(&mut self) -> Option<Line<'t>>
+        ensures { MatchOption result (LinesEnded self.old self.new) (λ line. LineGiven self.old line self.new) }
     {
-        self.number
-    }
-
-    // The next line, without its line feed.
-    pub(crate) fn next(&mut self) -> Option<&'t [u8]>
-        ensures { MatchOption result (LinesEnded self.old self.new) (λ line. LineGiven self.old line.now self.new) }
-    {
-        let text = self.text;
-        let start = self.at;
-        if start >= text.len() {
+        if self.rest.is_empty() {
             return None;
         }
-        let end = end_of(text, start, b'\n');
+        let (bytes, rest) = split_once(self.rest, b'\n');
+        self.rest = rest.unwrap_or(&[]);
         self.number += 1;
-        self.at = end + 1;
-        Some(&text[start..end])
+        Some(Line {
+            bytes,
+            number: self.number,
+        })
     }
 
     // The next line, which has to be there and to be printable.
-    pub(crate) fn line(&mut self) -> Result<&'t [u8], Refusal>
-        ensures value { seen result ≡ line_at (self.old.number + 1) (lines_left self.old) }
+    pub(crate) fn line(&mut self) -> Result<Line<'t>, Refusal>
+        ensures value { line_seen result ≡ line_at (self.old.number + 1) (lines_left self.old) }
+        ensures number { IfOk result (λ line. line.number ≡ self.old.number + 1) }
         ensures moved { OnOk result (LinesMoved 1 self.old self.new) }
     {
-        let Some(line) = self.next() else {
-            return Err(Refusal::WrongLineCount {
-                line: self.number + 1,
-            });
-        };
-        if is_printable(line) {
+        let line = self.next().ok_or(Refusal::WrongLineCount {
+            line: self.number + 1,
+        })?;
+        if is_printable(line.bytes) {
             Ok(line)
         } else {
-            Err(Refusal::BadByte { line: self.number })
+            Err(Refusal::BadByte { line: line.number })
         }
     }
 
@@ -104,7 +92,7 @@ impl<'t> Lines<'t> {
     {
         match self.next() {
             None => Ok(()),
-            Some(_) => Err(Refusal::WrongLineCount { line: self.number }),
+            Some(line) => Err(Refusal::WrongLineCount { line: line.number }),
         }
     }
 }

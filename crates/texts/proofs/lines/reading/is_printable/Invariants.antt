@@ -1,6 +1,0 @@
-use Rattle.std.proofs.Common.{◌≡◌, drop}
-use Rattle.texts.specs.Grammar.{printable}
-use Rattle.texts.proofs.lines.reading.is_printable.Given as goal
-
-abbrev pub invariant-loop-b : goal.invariant-loop-b
-invariant-loop-b l = printable (drop l.b-index l.bytes) ≡ printable l.bytes
