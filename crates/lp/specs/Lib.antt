@@ -1,4 +1,5 @@
 pub mod Sinks
+pub mod SinkLaws
 pub mod Writing
 pub mod Samples
 pub mod Reading

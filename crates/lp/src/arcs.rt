@@ -1,13 +1,13 @@
 // Arcs as entries of the text, one after another.
-ghost use Rattle.std.specs.Prelude.{◌≡◌, ◌+◌, ◌^◌, ◌<◌, ◌≤◌, map, length};
+ghost use Rattle.std.specs.Prelude.{◌≡◌, ℕ, ◌+◌, ◌*◌, ◌≤◌, List, ◌++◌, map, length, is_some};
+ghost use Rattle.std.specs.Iterator.{Drains, UpTo};
+ghost use Rattle.graph.specs.Graph.{head};
 ghost use Rattle.flow.specs.Arcs.{all_arcs};
 ghost use Rattle.flow.specs.Model.{Variable.X};
 ghost use Rattle.flow.specs.Text.{break, entries, full, listed};
-ghost use Rattle.lp.specs.Sinks.{Took};
-ghost use Rattle.lp.specs.Writing.{arc_entry, lead as leading, leads, only_if};
+ghost use Rattle.lp.specs.Writing.{arc_entry, lead as leading};
 
-use crate::bytes::{write_bytes, write_number};
-use crate::sink::Sink;
+use crate::sink::{Sink, write_number};
 use graph::Row;
 
 // Entries to a line of the text.
@@ -21,11 +21,11 @@ pub(crate) enum Lead {
     TakenOff,
 }
 
-// Where an arc of this row leads: a take arc has an odd number.
-pub(crate) fn target_of(row: Row, arc: usize) -> Option<u32>
-    ensures { result ≡ leads row arc }
+// Whether an arc of the graph is there.
+pub(crate) fn is_there(rows: &[Row], arc: usize) -> bool
+    ensures { result ≡ is_some (head rows.now arc) }
 {
-    if arc % 2 == 1 { row.take } else { row.pass }
+    rows.get(arc / 2).is_some_and(|row| row.head(arc).is_some())
 }
 
 // Whether the line breaks before an entry that follows k others.
@@ -37,59 +37,62 @@ fn breaks(k: usize) -> bool
 
 // The line break before an entry that follows k others, if there is one.
 pub(crate) fn write_break<S: Sink>(sink: &mut S, k: usize)
-    ensures { Took S.step sink.old (break k) sink.new }
+    ensures { S.took sink.old (break k) sink.new }
 {
     if breaks(k) {
-        write_bytes(sink, b"\n");
+        sink.put(b"\n");
+    } else {
+        sink.put(b"");
     }
 }
 
 fn write_lead<S: Sink>(sink: &mut S, lead: Lead, k: usize)
-    ensures { Took S.step sink.old (leading lead k) sink.new }
+    ensures { S.took sink.old (leading lead k) sink.new }
 {
     match lead {
-        Lead::Listed => write_bytes(sink, b" "),
-        Lead::Added => {
-            if k == 0 {
-                write_bytes(sink, b" ")
-            } else {
-                write_bytes(sink, b" + ")
-            }
-        }
-        Lead::TakenOff => write_bytes(sink, b" - "),
+        Lead::Listed => sink.put(b" "),
+        Lead::Added if k == 0 => sink.put(b" "),
+        Lead::Added => sink.put(b" + "),
+        Lead::TakenOff => sink.put(b" - "),
     }
 }
 
-// One arc's variable after k other entries, if the arc is there. Answers how many entries stand now.
-pub(crate) fn write_arc_if<S: Sink>(
-    sink: &mut S,
-    there: bool,
-    lead: Lead,
-    k: usize,
-    arc: usize,
-) -> usize
-    requires { k < 2 ^ 32 }
-    ensures took { Took S.step sink.old (entries (arc_entry lead) k (only_if there arc)) sink.new }
-    ensures count { result ≡ k + length (only_if there arc) }
+// One arc's variable after k other entries.
+pub(crate) fn write_arc<S: Sink>(sink: &mut S, lead: Lead, k: usize, arc: usize)
+    ensures { S.took sink.old (break k ++ arc_entry lead k arc) sink.new }
 {
-    if !there {
-        return k;
-    }
     write_break(sink, k);
     write_lead(sink, lead, k);
-    write_bytes(sink, b"x");
+    sink.put(b"x");
     write_number(sink, arc);
-    k + 1
+}
+
+// The variables of arcs, after k other entries. Answers how many entries stand now.
+pub(crate) fn write_arcs<S: Sink, I: Iterator<Item = usize> + Drop>(
+    sink: &mut S,
+    lead: Lead,
+    k: usize,
+    arcs: I,
+) -> usize
+    requires can { I.can_next arcs }
+    requires few { UpTo (I.remaining arcs) 131070 }
+    requires before { k ≤ 2 }
+    ensures took { (xs : List ℕ) × Drains I.next_gives arcs xs × S.took sink.old (entries (arc_entry lead) k xs) sink.new }
+    ensures count { (xs : List ℕ) × Drains I.next_gives arcs xs × (result ≡ k + length xs) }
+{
+    let mut count = k;
+    for arc in arcs {
+        write_arc(sink, lead, count, arc);
+        count += 1;
+    }
+    count
 }
 
 // The variables of all arcs, by rising number, after z.
 pub(crate) fn write_variables<S: Sink>(sink: &mut S, rows: &[Row])
     requires { length rows.now ≤ 65535 }
-    ensures { Took S.step sink.old (entries listed 1 (map X (all_arcs rows.now))) sink.new }
+    ensures { S.took sink.old (entries listed 1 (map X (all_arcs rows.now))) sink.new }
 {
-    let mut count = 1;
-    for arc in 0..2 * rows.len() {
-        let there = target_of(rows[arc / 2], arc).is_some();
-        count = write_arc_if(sink, there, Lead::Listed, count, arc);
-    }
+    let arcs = (0..2 * rows.len()).filter(|arc| is_there(rows, *arc));
+    write_arcs(sink, Lead::Listed, 1, arcs);
 }
