@@ -7,7 +7,7 @@ ghost use Rattle.flow.specs.Model.{Variable.X};
 ghost use Rattle.flow.specs.Text.{break, entries, full, listed};
 ghost use Rattle.lp.specs.Writing.{arc_entry, lead as leading};
 
-use crate::sink::{Sink, write_number};
+use crate::sink::Sink;
 use graph::Row;
 
 // Entries to a line of the text.
@@ -19,6 +19,20 @@ pub(crate) enum Lead {
     Listed,
     Added,
     TakenOff,
+}
+
+impl Lead {
+    // The text that stands before a variable after k others.
+    fn text(self, k: usize) -> &'static [u8]
+        ensures { result.now ≡ leading self k }
+    {
+        match self {
+            Lead::Listed => b" ",
+            Lead::Added if k == 0 => b" ",
+            Lead::Added => b" + ",
+            Lead::TakenOff => b" - ",
+        }
+    }
 }
 
 // Whether an arc of the graph is there.
@@ -36,35 +50,20 @@ fn breaks(k: usize) -> bool
 }
 
 // The line break before an entry that follows k others, if there is one.
-pub(crate) fn write_break<S: Sink>(sink: &mut S, k: usize)
-    ensures { S.took sink.old (break k) sink.new }
+pub(crate) fn line_break(k: usize) -> &'static [u8]
+    ensures { result.now ≡ break k }
 {
-    if breaks(k) {
-        sink.put(b"\n");
-    } else {
-        sink.put(b"");
-    }
-}
-
-fn write_lead<S: Sink>(sink: &mut S, lead: Lead, k: usize)
-    ensures { S.took sink.old (leading lead k) sink.new }
-{
-    match lead {
-        Lead::Listed => sink.put(b" "),
-        Lead::Added if k == 0 => sink.put(b" "),
-        Lead::Added => sink.put(b" + "),
-        Lead::TakenOff => sink.put(b" - "),
-    }
+    if breaks(k) { b"\n" } else { b"" }
 }
 
 // One arc's variable after k other entries.
 pub(crate) fn write_arc<S: Sink>(sink: &mut S, lead: Lead, k: usize, arc: usize)
     ensures { S.took sink.old (break k ++ arc_entry lead k arc) sink.new }
 {
-    write_break(sink, k);
-    write_lead(sink, lead, k);
+    sink.put(line_break(k));
+    sink.put(lead.text(k));
     sink.put(b"x");
-    write_number(sink, arc);
+    sink.put_number(arc);
 }
 
 // The variables of arcs, after k other entries. Answers how many entries stand now.

@@ -1,5 +1,5 @@
 // The rows of the model, one for each node but the target and one for each item.
-ghost use Rattle.std.specs.Prelude.{◌≡◌, ℕ, ◌<◌, ◌≤◌, length};
+ghost use Rattle.std.specs.Prelude.{◌≡◌, ℕ, ◌+◌, ◌<◌, ◌≤◌, ◌++◌, length, codes, decimal};
 ghost use Rattle.std.specs.List.{flat_map};
 ghost use Rattle.graph.specs.Graph.{at};
 ghost use Rattle.flow.specs.Arcs.{arcs_out, item_arcs};
@@ -7,11 +7,20 @@ ghost use Rattle.flow.specs.Model.{item_row, item_rows, node_row, node_rows, plu
 ghost use Rattle.flow.specs.Text.{constraint, entries, term};
 ghost use Rattle.lp.specs.Writing.{InOrder, NodesOf};
 
-use crate::arcs::{Lead, is_there, write_arcs, write_break};
+use crate::arcs::{Lead, is_there, line_break, write_arcs};
 use crate::links::{LinkedGraph, write_incoming};
-use crate::sink::{Sink, write_number};
+use crate::sink::Sink;
 use graph::Row;
 use std::ops::Range;
+
+// What a row is about: its kind and its number.
+fn write_label<S: Sink>(sink: &mut S, kind: &[u8], number: usize)
+    ensures { S.took sink.old (kind.now ++ (decimal number ++ codes ":")) sink.new }
+{
+    sink.put(kind);
+    sink.put_number(number);
+    sink.put(b":");
+}
 
 // What leaves a node: its pass arc, then its take arc. Answers how many terms these are.
 fn write_outgoing<S: Sink>(sink: &mut S, rows: &[Row], node: usize) -> usize
@@ -32,7 +41,7 @@ fn write_supply<S: Sink>(sink: &mut S, graph: LinkedGraph, node: usize, k: usize
     ensures { S.took sink.old (entries term k (supply graph.entry.rows.now node)) sink.new }
 {
     if node == 0 {
-        write_break(sink, k);
+        sink.put(line_break(k));
         sink.put(b" - z");
     } else {
         write_incoming(sink, graph, node, k);
@@ -43,9 +52,7 @@ fn write_node_row<S: Sink>(sink: &mut S, graph: LinkedGraph, node: usize)
     requires { node < length graph.rows.now }
     ensures { S.took sink.old (constraint (node_row graph.entry.rows.now node)) sink.new }
 {
-    sink.put(b" n");
-    write_number(sink, node);
-    sink.put(b":");
+    write_label(sink, b" n", node);
     let k = write_outgoing(sink, graph.rows, node);
     write_supply(sink, graph, node, k);
     sink.put(b" = 0\n");
@@ -82,12 +89,10 @@ fn write_takes<S: Sink>(sink: &mut S, graph: LinkedGraph, item: usize)
 fn write_item_row<S: Sink>(sink: &mut S, graph: LinkedGraph, item: usize, demand: usize)
     ensures { S.took sink.old (constraint (item_row graph.entry.rows.now item demand)) sink.new }
 {
-    sink.put(b" d");
-    write_number(sink, item);
-    sink.put(b":");
+    write_label(sink, b" d", item);
     write_takes(sink, graph, item);
     sink.put(b" >= ");
-    write_number(sink, demand);
+    sink.put_number(demand);
     sink.put(b"\n");
 }
 

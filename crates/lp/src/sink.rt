@@ -5,12 +5,20 @@ ghost use Rattle.lp.specs.SinkLaws.{measured_in_turn, written_in_turn};
 
 use itoa::Buffer;
 
+// Not std's `fmt::Write`: a write there may fail for no reason that a contract knows, and a text that has room is never refused.
 pub(crate) trait Sink {
     // holds of the sink before, the bytes that it took, and the sink after
     ghost took: { Self → List ℕ → Self → Type 0 };
 
     fn put(&mut self, bytes: &[u8])
         ensures { took self.old bytes.now self.new };
+
+    // The decimal digits of n.
+    final fn put_number(&mut self, n: usize)
+        ensures { took self.old (decimal n) self.new }
+    {
+        self.put(Buffer::new().format(n).as_bytes());
+    }
 
     // what is taken piece by piece is taken as one
     ghost in_turn: { TakesInTurn took };
@@ -51,11 +59,4 @@ impl<'a> Sink for Writer<'a> {
             self.at = end;
         }
     }
-}
-
-// The decimal digits of n.
-pub(crate) fn write_number<S: Sink>(sink: &mut S, n: usize)
-    ensures { S.took sink.old (decimal n) sink.new }
-{
-    sink.put(Buffer::new().format(n).as_bytes());
 }

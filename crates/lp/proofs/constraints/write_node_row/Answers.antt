@@ -9,7 +9,6 @@ returns g c =
     let turn = g.met.S.Sink.in_turn in
     let rows = c.args.graph.rows.now in
     let n = c.args.node in
-    let name = joins turn c.put.ensures (joins turn c.write_number.ensures c.put-2.ensures) in
     let terms = joins_to turn (terms_parts (plus (arcs_out rows n)) (supply rows n) c.write_outgoing-k.result c.write_outgoing-k.ensures.count)
     c.write_outgoing-k.ensures.took c.write_supply.ensures in
-    joins turn name (joins turn terms (same_bytes g.S.Sink.took balance_end c.put-3.ensures))
+    joins turn c.write_label.ensures (joins turn terms (same_bytes g.S.Sink.took balance_end c.put.ensures))

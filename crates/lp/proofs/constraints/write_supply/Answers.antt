@@ -4,7 +4,8 @@ use Rattle.lp.proofs.constraints.write_supply.Goals as goal
 
 pub returns-then-node-eq0 : goal.returns-then-node-eq0
 returns-then-node-eq0 g c =
-    joins_to g.met.S.Sink.in_turn (source_supply c.args.graph.rows.now c.args.node c.args.k c.if-node-eq0.true) c.write_break.ensures c.put.ensures
+    let start = rw c.line_break.ensures at c.put.ensures in
+    joins_to g.met.S.Sink.in_turn (source_supply c.args.graph.rows.now c.args.node c.args.k c.if-node-eq0.true) start c.put-then-node-eq0.ensures
 
 pub returns-else-node-eq0 : goal.returns-else-node-eq0
 returns-else-node-eq0 g c =
