@@ -1,5 +1,5 @@
 -- Entries one after another, the arcs of which they tell, and the rows that they make up.
-use Rattle.std.proofs.Common.{◌≡◌, ℕ, zero, suc, ◌+◌, ◌-◌, ◌<◌, ◌≤◌, Bool, true, false, cond, List, [], ◌∷◌, ◌++◌, map, length, sym, refl, ap, ◌∙◌, subst, ap₂, append_assoc, add-zero, add-one, arith, length-append}
+use Rattle.std.proofs.Common.{◌≡◌, ℕ, Option, zero, suc, ◌+◌, ◌-◌, ◌<◌, ◌≤◌, Bool, true, false, cond, List, [], ◌∷◌, ◌++◌, map, length, sym, refl, ap, ◌∙◌, subst, ap₂, append_assoc, add-zero, add-one, arith, length-append}
 use Rattle.std.specs.List.{filter, range_with_len}
 use Rattle.std.specs.declared.iter.Filter.{Filter}
 use Rattle.std.specs.declared.ops.Range.{Range}
@@ -7,7 +7,7 @@ use Rattle.std.specs.Fn.{CalledAt}
 use Rattle.std.specs.Iterator.{Drains}
 use Rattle.std.specs.Iterator.Adapters.{filter_callee, filter_source, filter_steps}
 use Rattle.std.proofs.iter.Yields.{nat_range_steps}
-use Rattle.std.proofs.lemmas.Iterator.{YieldsList-from_range, items_from_drains}
+use Rattle.std.proofs.lemmas.Iterator.{YieldsList, YieldsList-from_range, items_from_drains}
 use Rattle.std.proofs.lemmas.Iterator.Consumers.{YieldsList-from_filter}
 use Rattle.std.proofs.lemmas.List.{append-nil, map-id}
 use denote.Param.Members.{Mut}
@@ -100,12 +100,14 @@ filter_alike p q n (suc k) h =
 pub numbers_skip : (p : ℕ → Bool) (n k : ℕ) → ((a : ℕ) → n ≤ a → a < n + k → p a ≡ false) → numbers p (n + k) ≡ numbers p n
 numbers_skip p n k h = numbers_on p n k ∙ ap (λ xs. numbers p n ++ xs) (filter_none p n k h) ∙ append-nil (numbers p n)
 
+-- what an iterator gives until it ends
+pub drained : {S : Type 0} {steps : S → Option ℕ → S → Type 0} {s : S} {ys : List ℕ} (xs : List ℕ) → Drains steps s xs → YieldsList steps (λ x. x) s ys → xs ≡ ys
+drained xs d e = sym (map-id xs) ∙ items_from_drains xs (d.1.0, d.1.1, λ _. (d.0, d.1.2)) e
+
 -- what comes of the numbers of a range that pass a test
 pub drained_range : {F : Type 0} {g : Mut F (Bor ℕ × Unit {0}) Bool} {f : F} {s : Filter (Range ℕ) F} (test : ℕ → Bool) (a b : ℕ) (xs : List ℕ) → Drains (filter_steps nat_range_steps g) s xs →
     filter_source s ≡ record { start = a; end = b } → filter_callee s ≡ f → ((x : ℕ) (r : Bool) (q : F) → CalledAt g f x r q → (q ≡ f) × (r ≡ test x)) → xs ≡ filter test (range_with_len a (b - a))
-drained_range {g = g} test a b xs d source callee calls =
-    sym (map-id xs)
-    ∙ items_from_drains xs (d.1.0, d.1.1, λ _. (d.0, d.1.2)) (YieldsList-from_filter g test (YieldsList-from_range a b (b - a) source refl) callee calls)
+drained_range {g = g} test a b xs d source callee calls = drained xs d (YieldsList-from_filter g test (YieldsList-from_range a b (b - a) source refl) callee calls)
 
 -- those below n
 pub numbers_all : (p : ℕ → Bool) (n : ℕ) → filter p (range_with_len 0 (n - 0)) ≡ numbers p n

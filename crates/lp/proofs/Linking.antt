@@ -1,13 +1,14 @@
 -- The arcs into a node, linked and followed.
-use Rattle.std.proofs.Common.{◌≡◌, ◌≢◌, ℕ, suc, ◌+◌, ◌-◌, ◌*◌, ◌/◌, ◌<◌, ◌≤◌, Bool, true, false, cond, ◌⊎◌, List, [], ◌∷◌, ◌++◌, length, get_or, set, replicate, Some, None, Option, sym, refl, ap, ◌∙◌, subst, inl, inr, arith, length-set, get_or-set_other, get_or-set_same}
+use Rattle.std.proofs.Common.{append_assoc, ◌≡◌, ◌≢◌, ℕ, suc, ◌+◌, ◌-◌, ◌*◌, ◌/◌, ◌<◌, ◌≤◌, Bool, true, false, cond, ◌⊎◌, List, [], ◌∷◌, ◌++◌, length, get_or, set, replicate, Some, None, Option, sym, refl, ap, ◌∙◌, subst, inl, inr, arith, length-set, get_or-set_other, get_or-set_same}
+use Rattle.std.specs.List.{filter, range_with_len}
 use lib.ListN.{length-replicate}
-use Rattle.std.proofs.lemmas.List.{get_or-replicate}
+use Rattle.std.proofs.lemmas.List.{append_cancel_left, get_or-replicate}
 use Rattle.std.proofs.lemmas.Bool.{cases_eq, eq-eqb, ne_eqb}
 use Rattle.graph.specs.declared.Row.{Row}
 use Rattle.graph.specs.Graph.{Layered, at, head, takes}
-use Rattle.flow.specs.Arcs.{is, numbers}
+use Rattle.flow.specs.Arcs.{arcs_into, is, numbers}
 use Rattle.lp.specs.Links.{NextInto, Linked}
-use Rattle.lp.proofs.Entries.{numbers_skip}
+use Rattle.lp.proofs.Entries.{numbers_on, numbers_skip}
 
 -- in a layered graph every arc leads to a node
 pub layered_inside : {m : ℕ} {g : List Row} → Layered m g → (a v : ℕ) → head g a ≡ Some v → v < length g
@@ -120,3 +121,23 @@ module _ (g : List Row) (v : ℕ) where
   -- and the next one leads there
   pub follow : {a b : ℕ} → head g a ≡ Some v → NextInto g v (suc a) b → numbers into b ≡ numbers into a ++ a ∷ []
   follow {a} here h = skip h ∙ ap (λ x. numbers into a ++ cond x (a ∷ []) []) (ap (λ o. is o v) here ∙ eq-eqb v v refl)
+
+  -- all arcs, those before arc a and those from a on
+  apart : {a : ℕ} → a ≤ 2 * length g → numbers into a ++ filter into (range_with_len a (2 * length g - a)) ≡ arcs_into g v
+  apart {a} within = sym (numbers_on into a (2 * length g - a)) ∙ ap (numbers into) all
+    where
+      all : a + (2 * length g - a) ≡ 2 * length g
+      all = omega arith
+
+  -- the arcs from the first on
+  pub left_at_first : {b : ℕ} → NextInto g v 0 b → filter into (range_with_len b (2 * length g - b)) ≡ arcs_into g v
+  left_at_first {b} h = ap (λ xs. xs ++ filter into (range_with_len b (2 * length g - b))) (sym (skip h)) ∙ apart h.within
+
+  -- the arcs from a on, and those from the next on
+  pub left_at_next : {a b : ℕ} → a ≤ 2 * length g → head g a ≡ Some v → NextInto g v (suc a) b →
+      filter into (range_with_len a (2 * length g - a)) ≡ a ∷ filter into (range_with_len b (2 * length g - b))
+  left_at_next {a} {b} within here h =
+      append_cancel_left (numbers into a) (filter into (range_with_len a (2 * length g - a))) (a ∷ filter into (range_with_len b (2 * length g - b))) (
+      apart within ∙ sym (apart h.within)
+      ∙ ap (λ xs. xs ++ filter into (range_with_len b (2 * length g - b))) (follow here h)
+      ∙ append_assoc (numbers into a) (a ∷ []) (filter into (range_with_len b (2 * length g - b))))

@@ -4,3 +4,4 @@ pub mod Writing
 pub mod Samples
 pub mod Reading
 pub mod Links
+pub mod Incoming

@@ -57,7 +57,7 @@ pub(crate) fn line_break(k: usize) -> &'static [u8]
 }
 
 // One arc's variable after k other entries.
-pub(crate) fn write_arc<S: Sink>(sink: &mut S, lead: Lead, k: usize, arc: usize)
+fn write_arc<S: Sink>(sink: &mut S, lead: Lead, k: usize, arc: usize)
     ensures { S.took sink.old (break k ++ arc_entry lead k arc) sink.new }
 {
     sink.put(line_break(k));

@@ -8,7 +8,7 @@ ghost use Rattle.flow.specs.Text.{constraint, entries, term};
 ghost use Rattle.lp.specs.Writing.{InOrder, NodesOf};
 
 use crate::arcs::{Lead, is_there, line_break, write_arcs};
-use crate::links::{LinkedGraph, write_incoming};
+use crate::links::LinkedGraph;
 use crate::sink::Sink;
 use graph::Row;
 use std::ops::Range;
@@ -44,7 +44,7 @@ fn write_supply<S: Sink>(sink: &mut S, graph: LinkedGraph, node: usize, k: usize
         sink.put(line_break(k));
         sink.put(b" - z");
     } else {
-        write_incoming(sink, graph, node, k);
+        write_arcs(sink, Lead::TakenOff, k, graph.incoming(node));
     }
 }
 

@@ -1,14 +1,12 @@
 // The arcs into each node as linked lists, so that a node's are found without a search over all arcs.
-ghost use Rattle.std.specs.Prelude.{◌≡◌, ℕ, ◌*◌, ◌<◌, ◌≤◌, length};
-ghost use Rattle.graph.specs.Graph.{Layered};
+ghost use Rattle.std.specs.Prelude.{◌≡◌, ℕ, ◌*◌, ◌<◌, ◌≤◌, length, Some};
+ghost use Rattle.std.specs.Iterator.{YieldsFirst, item_count};
+ghost use Rattle.std.proofs.Props.{props};
+ghost use Rattle.graph.specs.Graph.{Layered, head};
 ghost use Rattle.flow.specs.Arcs.{arcs_into};
-ghost use Rattle.flow.specs.Model.{minus};
-ghost use Rattle.flow.specs.Text.{entries, term};
 ghost use Rattle.lp.specs.Links.{Linked};
 ghost use Rattle.lp.specs.Writing.{InOrder};
 
-use crate::arcs::{Lead, write_arc};
-use crate::sink::Sink;
 use graph::Row;
 use std::mem;
 
@@ -45,17 +43,43 @@ impl<'a> LinkedGraph<'a> {
     }
 }
 
-// What comes into a node, as terms after k others: its incoming arcs by rising number, found by their links.
-pub(crate) fn write_incoming<S: Sink>(sink: &mut S, graph: LinkedGraph, node: usize, k: usize)
-    requires there { node < length graph.rows.now }
-    requires before { k ≤ 2 }
-    ensures { S.took sink.old (entries term k (minus (arcs_into graph.entry.rows.now node))) sink.new }
-{
-    let mut arc = graph.first[node] as usize;
-    let mut count = k;
-    while let Some(after) = graph.next.get(arc) {
-        write_arc(sink, Lead::TakenOff, count, arc);
-        count += 1;
-        arc = *after as usize;
+// The arcs into a node that are still to come, by rising number: `arc` is the next of them.
+#[derive(Drop)]
+pub(crate) struct Incoming<'a> {
+    graph: LinkedGraph<'a>,
+    node: usize,
+    arc: usize,
+    ghost into: { arc < 2 * length graph.rows.now → head graph.rows.now arc ≡ Some node } by { Prim.hlevel props },
+    ghost within: { arc ≤ 2 * length graph.rows.now },
+}
+
+impl<'a> LinkedGraph<'a> {
+    ghost use Rattle.lp.specs.Incoming.{arcs_left};
+
+    // The arcs into a node.
+    pub(crate) fn incoming(self, node: usize) -> Incoming<'a>
+        requires { node < length self.rows.now }
+        ensures { arcs_left result ≡ arcs_into self.entry.rows.now node }
+    {
+        Incoming {
+            graph: self,
+            node,
+            arc: self.first[node] as usize,
+        }
+    }
+}
+
+impl Iterator for Incoming<'_> {
+    type Item = usize;
+
+    ghost use Rattle.lp.specs.Incoming.{arcs_left};
+
+    ghost next_gives = { YieldsFirst arcs_left };
+
+    ghost remaining = { item_count arcs_left };
+
+    fn next(&mut self) -> Option<usize> {
+        let after = *self.graph.next.get(self.arc)?;
+        Some(mem::replace(&mut self.arc, after as usize))
     }
 }
