@@ -40,16 +40,6 @@ all_linked {g} {first} {a = a} low h = record {
     zeroth : a ≡ 0
     zeroth = omega arith
 
--- no arc is linked yet
-pub none_linked : (g : List Row) (past : (c v : ℕ) → 2 * length g ≤ c → head g c ≢ Some v) → LinkedFrom g (replicate (length g) (2 * length g)) (replicate (2 * length g) (2 * length g)) (2 * length g)
-none_linked g past = record {
-  low = omega arith;
-  nodes = length-replicate (length g) (2 * length g);
-  arcs = length-replicate (2 * length g) (2 * length g);
-  first_into = λ v l. subst (NextInto g v (2 * length g)) (sym (get_or-replicate (length g) v (2 * length g) 0 l)) (record { from = omega arith; within = omega arith; skipped = λ c le lt. absurd (omega arith); into = λ lt. absurd (omega arith) });
-  next_into = λ c v le e. absurd (past c v le e);
-}
-
 module _ {g : List Row} {v a b : ℕ} (h : NextInto g v (suc a) b) where
   -- arc a leads elsewhere
   earlier : head g a ≢ Some v → NextInto g v a b

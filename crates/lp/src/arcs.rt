@@ -1,5 +1,5 @@
 // Arcs as entries of the text, one after another.
-ghost use Rattle.std.specs.Prelude.{◌≡◌, ℕ, ◌+◌, ◌*◌, ◌≤◌, List, ◌++◌, map, length, is_some};
+ghost use Rattle.std.specs.Prelude.{◌≡◌, ℕ, ◌+◌, ◌*◌, ◌≤◌, List, ◌++◌, map, length};
 ghost use Rattle.std.specs.Iterator.{Drains, UpTo};
 ghost use Rattle.graph.specs.Graph.{head};
 ghost use Rattle.flow.specs.Arcs.{all_arcs};
@@ -35,11 +35,11 @@ impl Lead {
     }
 }
 
-// Whether an arc of the graph is there.
-pub(crate) fn is_there(rows: &[Row], arc: usize) -> bool
-    ensures { result ≡ is_some (head rows.now arc) }
+// Where an arc of a graph leads, if it is there.
+pub(crate) fn head_of(rows: &[Row], arc: usize) -> Option<u32>
+    ensures { result ≡ head rows.now arc }
 {
-    rows.get(arc / 2).is_some_and(|row| row.head(arc).is_some())
+    rows.get(arc / 2)?.head(arc)
 }
 
 // Whether the line breaks before an entry that follows k others.
@@ -92,6 +92,6 @@ pub(crate) fn write_variables<S: Sink>(sink: &mut S, rows: &[Row])
     requires { length rows.now ≤ 65535 }
     ensures { S.took sink.old (entries listed 1 (map X (all_arcs rows.now))) sink.new }
 {
-    let arcs = (0..2 * rows.len()).filter(|arc| is_there(rows, *arc));
+    let arcs = (0..2 * rows.len()).filter(|arc| head_of(rows, *arc).is_some());
     write_arcs(sink, Lead::Listed, 1, arcs);
 }

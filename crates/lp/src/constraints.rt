@@ -7,7 +7,7 @@ ghost use Rattle.flow.specs.Model.{item_row, item_rows, node_row, node_rows, plu
 ghost use Rattle.flow.specs.Text.{constraint, entries, term};
 ghost use Rattle.lp.specs.Writing.{InOrder, NodesOf};
 
-use crate::arcs::{Lead, is_there, line_break, write_arcs};
+use crate::arcs::{Lead, head_of, line_break, write_arcs};
 use crate::links::LinkedGraph;
 use crate::sink::Sink;
 use graph::Row;
@@ -30,7 +30,7 @@ fn write_outgoing<S: Sink>(sink: &mut S, rows: &[Row], node: usize) -> usize
     ensures count { result ≡ length (plus (arcs_out rows.now node)) }
     ensures at_most { result ≤ 2 }
 {
-    let arcs = (2 * node..2 * node + 2).filter(|arc| is_there(rows, *arc));
+    let arcs = (2 * node..2 * node + 2).filter(|arc| head_of(rows, *arc).is_some());
     write_arcs(sink, Lead::Added, 0, arcs)
 }
 
@@ -82,7 +82,8 @@ fn write_takes<S: Sink>(sink: &mut S, graph: LinkedGraph, item: usize)
 {
     let rows = graph.rows;
     let nodes = nodes_of(rows, item);
-    let arcs = (2 * nodes.start..2 * nodes.end).filter(|arc| arc % 2 == 1 && is_there(rows, *arc));
+    let arcs = (2 * nodes.start..2 * nodes.end).filter(|arc| arc % 2 == 1
+        && head_of(rows, *arc).is_some());
     write_arcs(sink, Lead::Added, 0, arcs);
 }
 

@@ -7,6 +7,7 @@ ghost use Rattle.flow.specs.Arcs.{arcs_into};
 ghost use Rattle.lp.specs.Links.{Linked};
 ghost use Rattle.lp.specs.Writing.{InOrder};
 
+use crate::arcs::head_of;
 use graph::Row;
 use std::mem;
 
@@ -35,7 +36,7 @@ impl<'a> LinkedGraph<'a> {
         first.fill(end as u32);
         next.fill(end as u32);
         for arc in (0..end).rev() {
-            if let Some(to) = rows[arc / 2].head(arc) {
+            if let Some(to) = head_of(rows, arc) {
                 next[arc] = mem::replace(&mut first[to as usize], arc as u32);
             }
         }

@@ -5,17 +5,6 @@ use Rattle.lp.specs.Writing.{arc_entry}
 use Rattle.lp.proofs.Entries.{entries_more, joins_to}
 use Rattle.lp.proofs.arcs.write_arcs.Goals as goal
 
-pub loop-arc-init : goal.loop-arc-init
-loop-arc-init g c =
-    let same = c.into_iter-arc-iterator.ensures.into_iter_gives in
-    record {
-      can = search rules;
-      ends = search rules;
-      counted = omega arith;
-      few = rw same (omega (arith, c.requires.few.1));
-      took = g.met.S.Sink.in_turn.nothing c.args.sink.now;
-    }
-
 pub loop-arc-preserved : goal.loop-arc-preserved
 loop-arc-preserved g c =
     let so_far = c.loop-arc.invariant in

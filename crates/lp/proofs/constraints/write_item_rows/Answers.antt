@@ -7,9 +7,6 @@ use Rattle.lp.proofs.Entries.{joins_to, same_bytes}
 use Rattle.lp.proofs.Rows.{item_rows_next}
 use Rattle.lp.proofs.constraints.write_item_rows.Goals as goal
 
-pub loop-i-init : goal.loop-i-init
-loop-i-init g c = g.met.S.Sink.in_turn.nothing c.args.sink.now
-
 pub loop-i-preserved : goal.loop-i-preserved
 loop-i-preserved g c =
     joins_to g.met.S.Sink.in_turn (item_rows_next c.args.graph.rows.now c.args.demands.now c.loop-i.i (omega arith)) c.loop-i.invariant c.write_item_row.ensures

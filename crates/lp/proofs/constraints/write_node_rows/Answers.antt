@@ -7,9 +7,6 @@ use Rattle.lp.proofs.Entries.{joins_to, same_bytes}
 use Rattle.lp.proofs.Rows.{node_rows_next}
 use Rattle.lp.proofs.constraints.write_node_rows.Goals as goal
 
-pub loop-node-init : goal.loop-node-init
-loop-node-init g c = g.met.S.Sink.in_turn.nothing c.args.sink.now
-
 pub loop-node-preserved : goal.loop-node-preserved
 loop-node-preserved g c = joins_to g.met.S.Sink.in_turn (node_rows_next c.args.graph.rows.now c.loop-node.node) c.loop-node.invariant c.write_node_row.ensures
 
