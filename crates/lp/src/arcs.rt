@@ -7,6 +7,7 @@ ghost use Rattle.flow.specs.Model.{Variable.X};
 ghost use Rattle.flow.specs.Text.{break, entries, full, listed};
 ghost use Rattle.lp.specs.Writing.{arc_entry, lead as leading};
 
+use crate::links::LinkedGraph;
 use crate::sink::Sink;
 use graph::Row;
 
@@ -67,6 +68,7 @@ fn write_arc<S: Sink>(sink: &mut S, lead: Lead, k: usize, arc: usize)
 }
 
 // The variables of arcs, after k other entries. Answers how many entries stand now.
+// `k` stands beside the sink: a struct of both would borrow the sink, and each clause would also say that it is the same sink.
 pub(crate) fn write_arcs<S: Sink, I: Iterator<Item = usize> + Drop>(
     sink: &mut S,
     lead: Lead,
@@ -79,6 +81,7 @@ pub(crate) fn write_arcs<S: Sink, I: Iterator<Item = usize> + Drop>(
     ensures took { (xs : List ℕ) × Drains I.next_gives arcs xs × S.took sink.old (entries (arc_entry lead) k xs) sink.new }
     ensures count { (xs : List ℕ) × Drains I.next_gives arcs xs × (result ≡ k + length xs) }
 {
+    // counted by hand, since the count is the answer
     let mut count = k;
     for arc in arcs {
         write_arc(sink, lead, count, arc);
@@ -88,10 +91,10 @@ pub(crate) fn write_arcs<S: Sink, I: Iterator<Item = usize> + Drop>(
 }
 
 // The variables of all arcs, by rising number, after z.
-pub(crate) fn write_variables<S: Sink>(sink: &mut S, rows: &[Row])
-    requires { length rows.now ≤ 65535 }
-    ensures { S.took sink.old (entries listed 1 (map X (all_arcs rows.now))) sink.new }
+pub(crate) fn write_variables<S: Sink>(sink: &mut S, graph: LinkedGraph)
+    ensures { S.took sink.old (entries listed 1 (map X (all_arcs graph.entry.rows.now))) sink.new }
 {
+    let rows = graph.rows;
     let arcs = (0..2 * rows.len()).filter(|arc| head_of(rows, *arc).is_some());
     write_arcs(sink, Lead::Listed, 1, arcs);
 }

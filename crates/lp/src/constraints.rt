@@ -23,13 +23,13 @@ fn write_label<S: Sink>(sink: &mut S, kind: &[u8], number: usize)
 }
 
 // What leaves a node: its pass arc, then its take arc. Answers how many terms these are.
-fn write_outgoing<S: Sink>(sink: &mut S, rows: &[Row], node: usize) -> usize
-    requires few { length rows.now ≤ 65535 }
-    requires there { node < length rows.now }
-    ensures took { S.took sink.old (entries term 0 (plus (arcs_out rows.now node))) sink.new }
-    ensures count { result ≡ length (plus (arcs_out rows.now node)) }
+fn write_outgoing<S: Sink>(sink: &mut S, graph: LinkedGraph, node: usize) -> usize
+    requires { node < length graph.rows.now }
+    ensures took { S.took sink.old (entries term 0 (plus (arcs_out graph.entry.rows.now node))) sink.new }
+    ensures count { result ≡ length (plus (arcs_out graph.entry.rows.now node)) }
     ensures at_most { result ≤ 2 }
 {
+    let rows = graph.rows;
     let arcs = (2 * node..2 * node + 2).filter(|arc| head_of(rows, *arc).is_some());
     write_arcs(sink, Lead::Added, 0, arcs)
 }
@@ -53,7 +53,7 @@ fn write_node_row<S: Sink>(sink: &mut S, graph: LinkedGraph, node: usize)
     ensures { S.took sink.old (constraint (node_row graph.entry.rows.now node)) sink.new }
 {
     write_label(sink, b" n", node);
-    let k = write_outgoing(sink, graph.rows, node);
+    let k = write_outgoing(sink, graph, node);
     write_supply(sink, graph, node, k);
     sink.put(b" = 0\n");
 }

@@ -1,7 +1,6 @@
 // The arcs into each node as linked lists, so that a node's are found without a search over all arcs.
 ghost use Rattle.std.specs.Prelude.{◌≡◌, ℕ, ◌*◌, ◌<◌, ◌≤◌, length, Some};
 ghost use Rattle.std.specs.Iterator.{YieldsFirst, item_count};
-ghost use Rattle.std.proofs.Props.{props};
 ghost use Rattle.graph.specs.Graph.{Layered, head};
 ghost use Rattle.flow.specs.Arcs.{arcs_into};
 ghost use Rattle.lp.specs.Links.{Linked};
@@ -35,6 +34,7 @@ impl<'a> LinkedGraph<'a> {
         let end = next.len();
         first.fill(end as u32);
         next.fill(end as u32);
+        // the number of an arc is what is stored, so the loop goes over the numbers
         for arc in (0..end).rev() {
             if let Some(to) = head_of(rows, arc) {
                 next[arc] = mem::replace(&mut first[to as usize], arc as u32);
@@ -50,7 +50,7 @@ pub(crate) struct Incoming<'a> {
     graph: LinkedGraph<'a>,
     node: usize,
     arc: usize,
-    ghost into: { arc < 2 * length graph.rows.now → head graph.rows.now arc ≡ Some node } by { Prim.hlevel props },
+    ghost into: { arc < 2 * length graph.rows.now → head graph.rows.now arc ≡ Some node },
     ghost within: { arc ≤ 2 * length graph.rows.now },
 }
 

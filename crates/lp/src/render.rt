@@ -24,7 +24,7 @@ fn write_model<S: Sink>(sink: &mut S, graph: LinkedGraph, demands: &[u32])
     write_node_rows(sink, graph);
     write_item_rows(sink, graph, demands);
     sink.put(b"Generals\n z");
-    write_variables(sink, graph.rows);
+    write_variables(sink, graph);
     sink.put(b"\nEnd\n");
 }
 

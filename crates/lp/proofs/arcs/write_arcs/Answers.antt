@@ -1,4 +1,4 @@
-use Rattle.std.proofs.Common.{◌∷◌, [], ◌++◌, subst, arith, rules, length-append}
+use Rattle.std.proofs.Common.{◌∷◌, [], ◌++◌, subst, arith, length-append}
 use Rattle.std.specs.Iterator.{Drains}
 use Rattle.flow.specs.Text.{break, entries}
 use Rattle.lp.specs.Writing.{arc_entry}

@@ -9,7 +9,7 @@ use Rattle.lp.proofs.arcs.write_variables.Goals as goal
 
 pub returns : goal.returns
 returns g c =
-    let rows = c.args.rows.now in
+    let rows = c.args.graph.rows.now in
     let took = c.write_arcs.ensures.took in
     let arcs = drained_range (λ a. is_some (head rows a)) 0 (2 * length rows) took.0 took.1 c.filter-arcs.ensures.source c.filter-arcs.ensures.closure (λ x b q k. search rules) in
     same_bytes g.S.Sink.took (ap (entries (arc_entry Listed) 1) (arcs ∙ numbers_all (λ a. is_some (head rows a)) (2 * length rows)) ∙ listed_entries 1 (all_arcs rows)) took.2

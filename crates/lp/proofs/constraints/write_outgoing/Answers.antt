@@ -12,7 +12,7 @@ use Rattle.lp.proofs.constraints.write_outgoing.Goals as goal
 
 pub returns : goal.returns
 returns g c =
-    let rows = c.args.rows.now in
+    let rows = c.args.graph.rows.now in
     let n = c.args.node in
     let took = c.write_arcs.ensures.took in
     let count = c.write_arcs.ensures.count in

@@ -1,10 +1,9 @@
-use Rattle.std.proofs.Common.{◌≡◌, ◌-◌, ◌*◌, ◌∷◌, length, Some, ap, sym, subst, suc, ap₂, ◌∙◌, arith}
-use Rattle.std.specs.List.{filter, range_with_len}
+use Rattle.std.proofs.Common.{◌≡◌, length, Some, ap, sym, subst, suc, ◌∙◌, arith}
 use Rattle.std.proofs.lemmas.List.{get_or_default}
 use borrow.Author.Tests.{ltb-true}
 use Rattle.graph.specs.Graph.{head}
 use Rattle.lp.specs.Links.{NextInto}
-use Rattle.lp.proofs.Linking.{into, left_at_next}
+use Rattle.lp.proofs.Linking.{left_at_next}
 use Rattle.lp.proofs.links.IncomingIterator.next.Goals as goal
 
 pub returns : goal.returns
