@@ -81,9 +81,9 @@ fn write_takes<S: Sink>(sink: &mut S, graph: LinkedGraph, item: usize)
     ensures { S.took sink.old (entries term 0 (plus (item_arcs graph.entry.rows.now item))) sink.new }
 {
     let rows = graph.rows;
-    let nodes = nodes_of(rows, item);
-    let arcs = (2 * nodes.start..2 * nodes.end).filter(|arc| arc % 2 == 1
-        && head_of(rows, *arc).is_some());
+    let arcs = nodes_of(rows, item)
+        .map(|node| 2 * node + 1)
+        .filter(|arc| head_of(rows, *arc).is_some());
     write_arcs(sink, Lead::Added, 0, arcs);
 }
 
