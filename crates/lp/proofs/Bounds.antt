@@ -1,22 +1,21 @@
 -- The numbers of a graph's model are small.
-use Rattle.std.proofs.Common.{ℕ, zero, suc, ◌+◌, ◌-◌, ◌*◌, ◌^◌, ◌<◌, ◌≤◌, Bool, true, false, List, [], ◌∷◌, length, is_some, arith}
+use Rattle.std.proofs.Common.{ℕ, zero, suc, ◌+◌, ◌-◌, ◌*◌, ◌^◌, ◌<◌, ◌≤◌, Bool, true, false, cond, List, [], ◌∷◌, length, is_some, arith}
 use Rattle.std.specs.List.{AllByRecursion}
 use Rattle.std.proofs.ByRecursion.{All-append, All-map, All-weaker}
 use Rattle.graph.specs.declared.Row.{Row}
 use Rattle.graph.specs.Graph.{at, head}
 use Rattle.flow.specs.Arcs.{numbers, is, arcs_out, arcs_into, item_arcs, all_arcs}
 use Rattle.flow.specs.Model.{Variable.X, Term.Plus, Term.Minus, plus, supply, node_row, node_rows, item_rows, model}
-use Rattle.lp.specs.Writing.{only_if}
 use Rattle.lp.specs.Reading.{WithinVariable, WithinRow, Within, variable_of, GraphsReadBack}
 use Rattle.lp.proofs.ReadsBack.{reads_back}
 
-only_below : (b : Bool) (n most : ℕ) → n < most → AllByRecursion (λ a. a < most) (only_if b n)
+only_below : (b : Bool) (n most : ℕ) → n < most → AllByRecursion (λ a. a < most) (cond b (n ∷ []) [])
 only_below true n most h = (h, tt)
 only_below false n most h = tt
 
 numbers_below : (p : ℕ → Bool) (n most : ℕ) → n ≤ most → AllByRecursion (λ a. a < most) (numbers p n)
 numbers_below p zero most h = tt
-numbers_below p (suc n) most h = All-append (λ a. a < most) (numbers p n) (only_if (p n) n) (numbers_below p n most (omega arith)) (only_below (p n) n most (omega arith))
+numbers_below p (suc n) most h = All-append (λ a. a < most) (numbers p n) (cond (p n) (n ∷ []) []) (numbers_below p n most (omega arith)) (only_below (p n) n most (omega arith))
 
 module _ (g : List Row) (few : length g ≤ 65535) where
   plus_within : (arcs : List ℕ) → AllByRecursion (λ a. a < 2 ^ 64) arcs → AllByRecursion (λ t. WithinVariable (variable_of t)) (plus arcs)
@@ -32,7 +31,7 @@ module _ (g : List Row) (few : length g ≤ 65535) where
     label = omega arith;
     terms =
         All-append (λ t. WithinVariable (variable_of t)) (plus (arcs_out g n)) (supply g n)
-        (plus_within (arcs_out g n) (All-append (λ a. a < 2 ^ 64) (only_if (is_some (at g n).pass) (2 * n)) (only_if (is_some (at g n).take) (2 * n + 1))
+        (plus_within (arcs_out g n) (All-append (λ a. a < 2 ^ 64) (cond (is_some (at g n).pass) (2 * n ∷ []) []) (cond (is_some (at g n).take) ((2 * n + 1) ∷ []) [])
         (only_below (is_some (at g n).pass) (2 * n) (2 ^ 64) (omega arith)) (only_below (is_some (at g n).take) (2 * n + 1) (2 ^ 64) (omega arith))))
         (supply_within n);
     right = omega arith;

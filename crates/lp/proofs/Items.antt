@@ -1,18 +1,15 @@
 -- The nodes of an item stand together.
-use Rattle.std.proofs.Common.{◌≡◌, ℕ, zero, suc, ◌+◌, ◌-◌, ◌*◌, ◌<◌, ◌≤◌, Bool, true, false, ◌&&◌, eqb, ◌⊎◌, List, [], ◌++◌, length, is_some, sym, refl, ap, ◌∙◌, subst, ap₂, inl, inr, add-zero, arith, length-append}
-use Rattle.std.proofs.lemmas.List.{append-nil}
-use Rattle.std.proofs.lemmas.Bool.{cases_eq, cases_lt, eq-eqb, ne_eqb}
+use Rattle.std.proofs.Common.{ap₂, ◌≡◌, ℕ, zero, suc, cond, ◌∷◌, map, ◌+◌, ◌-◌, ◌*◌, ◌<◌, ◌≤◌, Bool, true, false, ◌&&◌, eqb, ltb, leb, ◌⊎◌, List, [], ◌++◌, length, is_some, sym, refl, ap, ◌∙◌, inl, inr, arith}
+use Rattle.std.specs.List.{filter, range_with_len}
+use Rattle.std.specs.List.Sorted.{IsPartitionPoint}
+use Rattle.std.proofs.lemmas.Bool.{cases_lt, eq-eqb, ne_eqb}
+use borrow.Author.Tests.{ltb-true, ltb-false, leb-true, leb-false}
 use Rattle.graph.specs.declared.Row.{Row}
-use Rattle.graph.specs.Graph.{Layered, at, head, pass_arc, tail, take_arc, takes}
+use Rattle.graph.specs.Graph.{Layered, at, blank, head, pass_arc, tail, take_arc, takes}
 use Rattle.flow.specs.Arcs.{item_arcs, numbers, takes_item}
-use Rattle.flow.specs.Model.{plus}
-use Rattle.flow.specs.Text.{entries, term}
-use Rattle.flow.proofs.Paths.{head_take, tail_take, takes_pass, takes_take}
-use Rattle.lp.specs.declared.arcs.Lead.TheVariants.{Added}
-use Rattle.lp.specs.Sinks.{Took, Took.none}
-use Rattle.lp.specs.Writing.{Begins, InOrder, arc_entry, only_if}
-use Rattle.lp.proofs.Rows.{entries_append, length_numbers, numbers_more, plus_entries}
-use Rattle.lp.proofs.Taking.{joins, same_bytes}
+use Rattle.flow.proofs.Paths.{takes_pass, takes_take}
+use Rattle.lp.specs.Writing.{InOrder, NodesOf}
+use Rattle.lp.proofs.Entries.{filter_alike, numbers_on, numbers_skip}
 
 pub layered_order : {m : ℕ} {g : List Row} → Layered m g → InOrder g
 layered_order {g = g} h v w le lt = go (cases_lt (at g w).item (at g v).item)
@@ -21,131 +18,76 @@ layered_order {g = g} h v w le lt = go (cases_lt (at g w).item (at g v).item)
     go (inl less) = absurd (omega (arith, h.by_item w v lt (omega arith) less))
     go (inr ok) = ok
 
--- the nodes of the first item begin at the source
-pub first_begins : {m : ℕ} {g : List Row} → Layered m g → Begins g 0 1
-first_begins {g = g} h = record {
-  inside = omega arith;
-  before = λ v lt. absurd (omega arith);
-  after = λ v le lt. omega (arith, h.source.0, layered_order h 0 v (omega arith) lt);
+-- the nodes between those of lower items and those of higher ones
+pub nodes_between : (g : List Row) (i start end : ℕ) → start ≤ length g → end ≤ length g →
+    IsPartitionPoint (λ (r : Row). ltb r.item i ≡ true) (λ (r : Row). ltb r.item i ≡ false) g start →
+    IsPartitionPoint (λ (r : Row). leb r.item i ≡ true) (λ (r : Row). leb r.item i ≡ false) g end → NodesOf g i start end
+nodes_between g i start end low high s e = record {
+  inside = high;
+  order = go (cases_lt end start);
+  of_item = λ v le lt. omega (arith, ltb-false (at g v).item i (s.1 v blank le (omega arith)), leb-true (at g v).item i (e.0 v blank (omega arith) lt));
+  before = λ v lt. ltb-true (at g v).item i (s.0 v blank (omega arith) lt);
+  after = λ v le lt. leb-false (at g v).item i (e.1 v blank le lt);
 }
-
--- numbers that do not pass the test
-pub numbers_skip : (p : ℕ → Bool) (n k : ℕ) → ((a : ℕ) → n ≤ a → a < n + k → p a ≡ false) → numbers p (n + k) ≡ numbers p n
-numbers_skip p n zero h = ap (numbers p) (add-zero n)
-numbers_skip p n (suc k) h =
-    ap (numbers p) next
-    ∙ ap₂ (λ xs b. xs ++ only_if b (n + k)) (numbers_skip p n k (λ a le lt. h a le (omega arith))) (h (n + k) (omega arith) (omega arith))
-    ∙ append-nil (numbers p n)
   where
-    next : n + suc k ≡ suc (n + k)
-    next = omega arith
+    go : (end < start) ⊎ (start ≤ end) → start ≤ end
+    go (inl less) = absurd (omega (arith, ltb-true (at g end).item i (s.0 end blank (omega arith) less), leb-false (at g end).item i (e.1 end blank (omega arith) (omega arith))))
+    go (inr ok) = ok
 
 off : (x y z : Bool) → z ≡ false → x && (y && z) ≡ false
 off true true z e = e
 off true false z e = refl
 off false y z e = refl
 
-on : (x y z : Bool) → x ≡ true → z ≡ true → x && (y && z) ≡ y
-on x y z e f = ap₂ (λ a b. a && (y && b)) e f ∙ both y
+on : (x y z : Bool) → z ≡ true → x && (y && z) ≡ x && y
+on true true z e = e
+on true false z e = refl
+on false y z e = refl
+
+-- the take arcs of nodes, among all their arcs
+takes_by_node : (p : ℕ → Bool) (s n : ℕ) → filter p (map take_arc (range_with_len s n)) ≡ filter (λ a. takes a && p a) (range_with_len (2 * s) (2 * n))
+takes_by_node p s zero = refl
+takes_by_node p s (suc n) =
+    ap (λ xs. cond (p (take_arc s)) (take_arc s ∷ xs) xs) (takes_by_node p (s + 1) n ∙ ap (λ k. filter q (range_with_len k (2 * n))) start)
+    ∙ ap₂ (λ b c. cond b (pass_arc s ∷ cond c (take_arc s ∷ rest) rest) (cond c (take_arc s ∷ rest) rest)) (sym (ap (λ b. b && p (pass_arc s)) (takes_pass s))) (sym (ap (λ b. b && p (take_arc s)) (takes_take s)))
+    ∙ ap (λ k. filter q (range_with_len (2 * s) k)) (sym two)
   where
-    both : (y : Bool) → y && true ≡ y
-    both true = refl
-    both false = refl
+    q : ℕ → Bool
+    q a = takes a && p a
 
--- the take arcs of item i, up to a node that its nodes have reached
-pub record Reached {S : Type 0} (step : S → ℕ → S → Type 0) (g : List Row) (i start : ℕ) (s t : S) (count node : ℕ) : Type 0 where
-  pub from : start ≤ node
-  pub inside : node ≤ length g
-  pub passed : (v : ℕ) → v < node → (at g v).item ≤ i
-  pub counted : count ≡ length (numbers (takes_item g i) (2 * node))
-  pub took : Took step s (entries (arc_entry Added) 0 (numbers (takes_item g i) (2 * node))) t
+    rest : List ℕ
+    rest = filter q (range_with_len (2 * s + 1 + 1) (2 * n))
 
-module _ (g : List Row) (i : ℕ) where
-  -- the arcs of nodes of other items
-  others : (n k : ℕ) → ((a : ℕ) → n ≤ a → a < n + k → (at g (tail a)).item ≡ i → ⊥) → numbers (takes_item g i) (n + k) ≡ numbers (takes_item g i) n
-  others n k h = numbers_skip (takes_item g i) n k (λ a le lt. off (takes a) (is_some (head g a)) _ (ne_eqb (at g (tail a)).item i (h a le lt)))
+    start : 2 * (s + 1) ≡ 2 * s + 1 + 1
+    start = omega arith
 
-  -- the arcs of one node of the item
-  pair : (node : ℕ) → (at g node).item ≡ i → numbers (takes_item g i) (2 * (node + 1)) ≡ numbers (takes_item g i) (2 * node) ++ only_if (is_some (at g node).take) (take_arc node)
-  pair node e =
-      ap (numbers (takes_item g i)) next
-      ∙ numbers_more (takes_item g i) (take_arc node)
-      ∙ ap (λ xs. xs ++ only_if (takes_item g i (take_arc node)) (take_arc node)) (numbers_more (takes_item g i) (pass_arc node))
-      ∙ ap₂ (λ b c. (numbers (takes_item g i) (2 * node) ++ only_if b (pass_arc node)) ++ only_if c (take_arc node)) no_pass taken
-      ∙ ap (λ xs. xs ++ only_if (is_some (at g node).take) (take_arc node)) (append-nil (numbers (takes_item g i) (2 * node)))
+    two : 2 * suc n ≡ suc (suc (2 * n))
+    two = omega arith
+
+-- the take arcs of an item are those of its nodes
+module _ (g : List Row) (i start end : ℕ) (nodes : NodesOf g i start end) where
+  others : (a : ℕ) → ((at g (tail a)).item ≡ i → ⊥) → takes_item g i a ≡ false
+  others a ne = off (takes a) (is_some (head g a)) (eqb (at g (tail a)).item i) (ne_eqb (at g (tail a)).item i ne)
+
+  takes_of_nodes : filter (λ a. takes a && is_some (head g a)) (range_with_len (2 * start) (2 * (end - start))) ≡ item_arcs g i
+  takes_of_nodes =
+      filter_alike (λ a. takes a && is_some (head g a)) (takes_item g i) (2 * start) (2 * (end - start))
+      (λ a le lt. sym (on (takes a) (is_some (head g a)) (eqb (at g (tail a)).item i) (eq-eqb (at g (tail a)).item i (nodes.of_item (tail a) (omega arith) (omega (arith, nodes.order))))))
+      ∙ ap (λ xs. xs ++ filter (takes_item g i) (range_with_len (2 * start) (2 * (end - start)))) (sym none_before)
+      ∙ sym (numbers_on (takes_item g i) (2 * start) (2 * (end - start)))
+      ∙ sym (numbers_skip (takes_item g i) (2 * start + (2 * (end - start))) (2 * length g - 2 * end)
+      (λ a le lt. others a (λ e. omega (arith, nodes.order, nodes.inside, nodes.after (tail a) (omega (arith, nodes.order)) (omega (arith, nodes.order, nodes.inside))))))
+      ∙ ap (numbers (takes_item g i)) all
     where
-      next : 2 * (node + 1) ≡ take_arc node + 1
-      next = omega arith
-
-      no_pass : takes_item g i (pass_arc node) ≡ false
-      no_pass = ap (λ b. b && (is_some (head g (pass_arc node)) && eqb (at g (tail (pass_arc node))).item i)) (takes_pass node)
-
-      taken : takes_item g i (take_arc node) ≡ is_some (at g node).take
-      taken =
-          on (takes (take_arc node)) (is_some (head g (take_arc node))) _ (takes_take node) (eq-eqb _ i (ap (λ v. (at g v).item) (tail_take node) ∙ e))
-          ∙ ap is_some (head_take g node)
-
-module _ {S : Type 0} (step : S → ℕ → S → Type 0) (g : List Row) (i start : ℕ) (begin : Begins g start i) where
-  pub reached_start : (s : S) → Reached step g i start s s 0 start
-  reached_start s = record {
-    from = omega arith;
-    inside = begin.inside;
-    passed = λ v lt. omega (arith, begin.before v lt);
-    counted = sym (ap length none_yet);
-    took = same_bytes (sym (ap (entries (arc_entry Added) 0) none_yet)) none;
-  }
-    where
-      from_zero : 2 * start ≡ 0 + 2 * start
-      from_zero = omega arith
-
-      none_yet : numbers (takes_item g i) (2 * start) ≡ []
-      none_yet = ap (numbers (takes_item g i)) from_zero ∙ others g i 0 (2 * start) (λ a le lt e. omega (arith, begin.before (tail a) (omega arith)))
-
-  module _ {s t : S} {count node : ℕ} (h : Reached step g i start s t count node) where
-    pub reached_few : length g ≤ 65535 → count ≤ 131070
-    reached_few few = omega (arith, h.counted, h.inside, length_numbers (takes_item g i) (2 * node))
-
-    pub reached_more : {u : S} {r : ℕ} (b : Bool) → node < length g → (at g node).item ≡ i → b ≡ is_some (at g node).take →
-        Took step t (entries (arc_entry Added) count (only_if b (take_arc node))) u → r ≡ count + length (only_if b (take_arc node)) → Reached step g i start s u r (node + 1)
-    reached_more {u} {r} b lt here there last e = record {
-      from = omega (arith, h.from);
-      inside = omega arith;
-      passed = λ v l. go v l (cases_lt v node);
-      counted = omega (arith, e, h.counted, ap length one_more ∙ length-append (numbers (takes_item g i) (2 * node)) (only_if b (take_arc node)));
-      took =
-          same_bytes (sym (entries_append (arc_entry Added) 0 (numbers (takes_item g i) (2 * node)) (only_if b (take_arc node))) ∙ ap (entries (arc_entry Added) 0) (sym one_more))
-          (joins h.took (subst (λ n. Took step t (entries (arc_entry Added) n (only_if b (take_arc node))) u) from_none last));
-    }
-      where
-        from_none : count ≡ 0 + length (numbers (takes_item g i) (2 * node))
-        from_none = omega (arith, h.counted)
-
-        one_more : numbers (takes_item g i) (2 * (node + 1)) ≡ numbers (takes_item g i) (2 * node) ++ only_if b (take_arc node)
-        one_more = pair g i node here ∙ ap (λ x. numbers (takes_item g i) (2 * node) ++ only_if x (take_arc node)) (sym there)
-
-        go : (v : ℕ) → v < node + 1 → (v < node) ⊎ (node ≤ v) → (at g v).item ≤ i
-        go v l (inl less) = h.passed v less
-        go v l (inr same) = let e : v ≡ node = omega arith in omega (arith, ap (λ w. (at g w).item) e, here)
-
-    -- the nodes of the item end where there is none, or one of another item
-    module _ (order : InOrder g) (end : node < length g → (at g node).item ≡ i → ⊥) where
-      pub next_begins : Begins g node (i + 1)
-      next_begins = record {
-        inside = h.inside;
-        before = λ v lt. omega (arith, h.passed v lt);
-        after = λ v le lt. later v le lt (begin.after node h.from (omega arith)) (cases_eq (at g node).item i);
-      }
+      none_before : numbers (takes_item g i) (2 * start) ≡ []
+      none_before = ap (numbers (takes_item g i)) from_zero ∙ numbers_skip (takes_item g i) 0 (2 * start) (λ a le lt. others a (λ e. omega (arith, nodes.before (tail a) (omega arith))))
         where
-          later : (v : ℕ) → node ≤ v → v < length g → i ≤ (at g node).item → ((at g node).item ≡ i) ⊎ ((at g node).item ≡ i → ⊥) → i + 1 ≤ (at g v).item
-          later v le lt low (inl e) = absurd (end (omega arith) e)
-          later v le lt low (inr ne) = omega (arith, order node v le lt)
+          from_zero : 2 * start ≡ 0 + 2 * start
+          from_zero = omega arith
 
-      pub all_taken : Took step s (entries term 0 (plus (item_arcs g i))) t
-      all_taken = same_bytes (ap (entries (arc_entry Added) 0) (sym rest) ∙ plus_entries 0 (item_arcs g i)) h.took
-        where
-          whole : 2 * length g ≡ 2 * node + (2 * length g - 2 * node)
-          whole = omega (arith, h.inside)
+      all : 2 * start + (2 * (end - start)) + (2 * length g - 2 * end) ≡ 2 * length g
+      all = omega (arith, nodes.order, nodes.inside)
 
-          rest : item_arcs g i ≡ numbers (takes_item g i) (2 * node)
-          rest = ap (numbers (takes_item g i)) whole
-              ∙ others g i (2 * node) (2 * length g - 2 * node) (λ a le lt e. omega (arith, next_begins.after (tail a) (omega arith) (omega arith)))
+  -- node by node
+  pub takes_each : filter (λ a. is_some (head g a)) (map take_arc (range_with_len start (end - start))) ≡ item_arcs g i
+  takes_each = takes_by_node (λ a. is_some (head g a)) start (end - start) ∙ takes_of_nodes

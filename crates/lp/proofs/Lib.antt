@@ -1,6 +1,6 @@
-pub mod Taking
+pub mod Entries
+pub mod Items
+pub mod Linking
 pub mod Rows
 pub mod ReadsBack
 pub mod Bounds
-pub mod Chains
-pub mod Items

@@ -1,12 +1,13 @@
 // Arcs as entries of the text, one after another.
-ghost use Rattle.std.specs.Prelude.{◌≡◌, ◌+◌, ◌^◌, ◌<◌, ◌≤◌, map, length};
+ghost use Rattle.std.specs.Prelude.{◌≡◌, ℕ, ◌+◌, ◌*◌, ◌≤◌, List, ◌++◌, map, length};
+ghost use Rattle.std.specs.Iterator.{Drains, UpTo};
+ghost use Rattle.graph.specs.Graph.{head};
 ghost use Rattle.flow.specs.Arcs.{all_arcs};
 ghost use Rattle.flow.specs.Model.{Variable.X};
 ghost use Rattle.flow.specs.Text.{break, entries, full, listed};
-ghost use Rattle.lp.specs.Sinks.{Took};
-ghost use Rattle.lp.specs.Writing.{arc_entry, lead as leading, leads, only_if};
+ghost use Rattle.lp.specs.Writing.{arc_entry, lead as leading};
 
-use crate::bytes::{write_bytes, write_number};
+use crate::links::LinkedGraph;
 use crate::sink::Sink;
 use graph::Row;
 
@@ -21,11 +22,25 @@ pub(crate) enum Lead {
     TakenOff,
 }
 
-// Where an arc of this row leads: a take arc has an odd number.
-pub(crate) fn target_of(row: Row, arc: usize) -> Option<u32>
-    ensures { result ≡ leads row arc }
+impl Lead {
+    // The text that stands before a variable after k others.
+    fn text(self, k: usize) -> &'static [u8]
+        ensures { result.now ≡ leading self k }
+    {
+        match self {
+            Lead::Listed => b" ",
+            Lead::Added if k == 0 => b" ",
+            Lead::Added => b" + ",
+            Lead::TakenOff => b" - ",
+        }
+    }
+}
+
+// Where an arc of a graph leads, if it is there.
+pub(crate) fn head_of(rows: &[Row], arc: usize) -> Option<u32>
+    ensures { result ≡ head rows.now arc }
 {
-    if arc % 2 == 1 { row.take } else { row.pass }
+    rows.get(arc / 2)?.head(arc)
 }
 
 // Whether the line breaks before an entry that follows k others.
@@ -36,60 +51,50 @@ fn breaks(k: usize) -> bool
 }
 
 // The line break before an entry that follows k others, if there is one.
-pub(crate) fn write_break<S: Sink>(sink: &mut S, k: usize)
-    ensures { Took S.step sink.old (break k) sink.new }
+pub(crate) fn line_break(k: usize) -> &'static [u8]
+    ensures { result.now ≡ break k }
 {
-    if breaks(k) {
-        write_bytes(sink, b"\n");
-    }
+    if breaks(k) { b"\n" } else { b"" }
 }
 
-fn write_lead<S: Sink>(sink: &mut S, lead: Lead, k: usize)
-    ensures { Took S.step sink.old (leading lead k) sink.new }
+// One arc's variable after k other entries.
+fn write_arc<S: Sink>(sink: &mut S, lead: Lead, k: usize, arc: usize)
+    ensures { S.took sink.old (break k ++ arc_entry lead k arc) sink.new }
 {
-    match lead {
-        Lead::Listed => write_bytes(sink, b" "),
-        Lead::Added => {
-            if k == 0 {
-                write_bytes(sink, b" ")
-            } else {
-                write_bytes(sink, b" + ")
-            }
-        }
-        Lead::TakenOff => write_bytes(sink, b" - "),
-    }
+    sink.put(line_break(k));
+    sink.put(lead.text(k));
+    sink.put(b"x");
+    sink.put_number(arc);
 }
 
-// One arc's variable after k other entries, if the arc is there. Answers how many entries stand now.
-pub(crate) fn write_arc_if<S: Sink>(
+// The variables of arcs, after k other entries. Answers how many entries stand now.
+// `k` stands beside the sink: a struct of both would borrow the sink, and each clause would also say that it is the same sink.
+pub(crate) fn write_arcs<S: Sink, I: Iterator<Item = usize> + Drop>(
     sink: &mut S,
-    there: bool,
     lead: Lead,
     k: usize,
-    arc: usize,
+    arcs: I,
 ) -> usize
-    requires { k < 2 ^ 32 }
-    ensures took { Took S.step sink.old (entries (arc_entry lead) k (only_if there arc)) sink.new }
-    ensures count { result ≡ k + length (only_if there arc) }
+    requires can { I.can_next arcs }
+    requires few { UpTo (I.remaining arcs) 131070 }
+    requires before { k ≤ 2 }
+    ensures took { (xs : List ℕ) × Drains I.next_gives arcs xs × S.took sink.old (entries (arc_entry lead) k xs) sink.new }
+    ensures count { (xs : List ℕ) × Drains I.next_gives arcs xs × (result ≡ k + length xs) }
 {
-    if !there {
-        return k;
+    // counted by hand, since the count is the answer
+    let mut count = k;
+    for arc in arcs {
+        write_arc(sink, lead, count, arc);
+        count += 1;
     }
-    write_break(sink, k);
-    write_lead(sink, lead, k);
-    write_bytes(sink, b"x");
-    write_number(sink, arc);
-    k + 1
+    count
 }
 
 // The variables of all arcs, by rising number, after z.
-pub(crate) fn write_variables<S: Sink>(sink: &mut S, rows: &[Row])
-    requires { length rows.now ≤ 65535 }
-    ensures { Took S.step sink.old (entries listed 1 (map X (all_arcs rows.now))) sink.new }
+pub(crate) fn write_variables<S: Sink>(sink: &mut S, graph: LinkedGraph)
+    ensures { S.took sink.old (entries listed 1 (map X (all_arcs graph.entry.rows.now))) sink.new }
 {
-    let mut count = 1;
-    for arc in 0..2 * rows.len() {
-        let there = target_of(rows[arc / 2], arc).is_some();
-        count = write_arc_if(sink, there, Lead::Listed, count, arc);
-    }
+    let rows = graph.rows;
+    let arcs = (0..2 * rows.len()).filter(|arc| head_of(rows, *arc).is_some());
+    write_arcs(sink, Lead::Listed, 1, arcs);
 }

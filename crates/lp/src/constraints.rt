@@ -1,121 +1,107 @@
 // The rows of the model, one for each node but the target and one for each item.
-ghost use Rattle.std.specs.Prelude.{◌≡◌, ◌+◌, ◌<◌, ◌≤◌, length};
+ghost use Rattle.std.specs.Prelude.{◌≡◌, ℕ, ◌+◌, ◌<◌, ◌≤◌, ◌++◌, length, codes, decimal};
 ghost use Rattle.std.specs.List.{flat_map};
-ghost use Rattle.flow.specs.Arcs.{item_arcs};
+ghost use Rattle.graph.specs.Graph.{at};
+ghost use Rattle.flow.specs.Arcs.{arcs_out, item_arcs};
 ghost use Rattle.flow.specs.Model.{item_row, item_rows, node_row, node_rows, plus, supply};
 ghost use Rattle.flow.specs.Text.{constraint, entries, term};
-ghost use Rattle.lp.specs.Writing.{Begins, InOrder, outgoing};
-ghost use Rattle.lp.specs.Links.{Ready};
-ghost use Rattle.lp.specs.Sinks.{Took};
+ghost use Rattle.lp.specs.Writing.{InOrder, NodesOf};
 
-use crate::arcs::{Lead, write_arc_if, write_break};
-use crate::bytes::{write_bytes, write_number};
-use crate::links::{LinkedGraph, write_incoming};
+use crate::arcs::{Lead, head_of, line_break, write_arcs};
+use crate::links::LinkedGraph;
 use crate::sink::Sink;
 use graph::Row;
+use std::ops::Range;
+
+// What a row is about: its kind and its number.
+fn write_label<S: Sink>(sink: &mut S, kind: &[u8], number: usize)
+    ensures { S.took sink.old (kind.now ++ (decimal number ++ codes ":")) sink.new }
+{
+    sink.put(kind);
+    sink.put_number(number);
+    sink.put(b":");
+}
 
 // What leaves a node: its pass arc, then its take arc. Answers how many terms these are.
-fn write_outgoing<S: Sink>(sink: &mut S, row: Row, node: usize) -> usize
-    requires { node ≤ 65535 }
-    ensures took { Took S.step sink.old (entries term 0 (plus (outgoing row node))) sink.new }
-    ensures count { result ≡ length (plus (outgoing row node)) }
-    ensures few { result ≤ 2 }
+fn write_outgoing<S: Sink>(sink: &mut S, graph: LinkedGraph, node: usize) -> usize
+    requires { node < length graph.rows.now }
+    ensures took { S.took sink.old (entries term 0 (plus (arcs_out graph.entry.rows.now node))) sink.new }
+    ensures count { result ≡ length (plus (arcs_out graph.entry.rows.now node)) }
+    ensures at_most { result ≤ 2 }
 {
-    let k = write_arc_if(sink, row.pass.is_some(), Lead::Added, 0, 2 * node);
-    write_arc_if(sink, row.take.is_some(), Lead::Added, k, 2 * node + 1)
+    let rows = graph.rows;
+    let arcs = (2 * node..2 * node + 2).filter(|arc| head_of(rows, *arc).is_some());
+    write_arcs(sink, Lead::Added, 0, arcs)
 }
 
 // What comes into a node, after k other terms: at the source z, elsewhere its incoming arcs.
 fn write_supply<S: Sink>(sink: &mut S, graph: LinkedGraph, node: usize, k: usize)
-    requires ready { Ready graph }
     requires there { node < length graph.rows.now }
     requires before { k ≤ 2 }
-    ensures { Took S.step sink.old (entries term k (supply graph.entry.rows.now node)) sink.new }
+    ensures { S.took sink.old (entries term k (supply graph.entry.rows.now node)) sink.new }
 {
     if node == 0 {
-        write_break(sink, k);
-        write_bytes(sink, b" - z");
+        sink.put(line_break(k));
+        sink.put(b" - z");
     } else {
-        write_incoming(sink, graph, node, k);
+        write_arcs(sink, Lead::TakenOff, k, graph.incoming(node));
     }
 }
 
 fn write_node_row<S: Sink>(sink: &mut S, graph: LinkedGraph, node: usize)
-    requires ready { Ready graph }
-    requires there { node < length graph.rows.now }
-    ensures { Took S.step sink.old (constraint (node_row graph.entry.rows.now node)) sink.new }
+    requires { node < length graph.rows.now }
+    ensures { S.took sink.old (constraint (node_row graph.entry.rows.now node)) sink.new }
 {
-    write_bytes(sink, b" n");
-    write_number(sink, node);
-    write_bytes(sink, b":");
-    let k = write_outgoing(sink, graph.rows[node], node);
+    write_label(sink, b" n", node);
+    let k = write_outgoing(sink, graph, node);
     write_supply(sink, graph, node, k);
-    write_bytes(sink, b" = 0\n");
+    sink.put(b" = 0\n");
 }
 
 pub(crate) fn write_node_rows<S: Sink>(sink: &mut S, graph: LinkedGraph)
-    requires { Ready graph }
-    ensures { Took S.step sink.old (flat_map constraint (node_rows graph.entry.rows.now)) sink.new }
+    ensures { S.took sink.old (flat_map constraint (node_rows graph.entry.rows.now)) sink.new }
 {
     for node in 0..graph.rows.len().saturating_sub(1) {
         write_node_row(sink, graph, node);
     }
 }
 
-// The take arcs of an item as terms. Its nodes stand together, and begin at `start`. Answers where they end.
-fn write_takes<S: Sink>(sink: &mut S, rows: &[Row], item: usize, start: usize) -> usize
-    requires few { length rows.now ≤ 65535 }
-    requires order { InOrder rows.now }
-    requires begin { Begins rows.now start item }
-    ensures took { Took S.step sink.old (entries term 0 (plus (item_arcs rows.now item))) sink.new }
-    ensures end { Begins rows.now result (item + 1) }
+// The nodes of an item, which stand together.
+fn nodes_of(rows: &[Row], item: usize) -> Range<usize>
+    requires { InOrder rows.now }
+    ensures { NodesOf rows.now item result.start result.end }
 {
-    let mut node = start;
-    let mut count = 0;
-    while node < rows.len() && rows[node].item as usize == item {
-        count = write_arc_if(
-            sink,
-            rows[node].take.is_some(),
-            Lead::Added,
-            count,
-            2 * node + 1,
-        );
-        node += 1;
-    }
-    node
+    let start = rows.partition_point(|row| (row.item as usize) < item);
+    let end = rows.partition_point(|row| row.item as usize <= item);
+    start..end
 }
 
-// The row of an item, whose nodes begin at `start`. Answers where they end.
-fn write_item_row<S: Sink>(
-    sink: &mut S,
-    rows: &[Row],
-    item: usize,
-    start: usize,
-    demand: usize,
-) -> usize
-    requires few { length rows.now ≤ 65535 }
-    requires order { InOrder rows.now }
-    requires begin { Begins rows.now start item }
-    ensures took { Took S.step sink.old (constraint (item_row rows.now item demand)) sink.new }
-    ensures end { Begins rows.now result (item + 1) }
+// The take arcs of an item as terms.
+fn write_takes<S: Sink>(sink: &mut S, graph: LinkedGraph, item: usize)
+    ensures { S.took sink.old (entries term 0 (plus (item_arcs graph.entry.rows.now item))) sink.new }
 {
-    write_bytes(sink, b" d");
-    write_number(sink, item);
-    write_bytes(sink, b":");
-    let end = write_takes(sink, rows, item, start);
-    write_bytes(sink, b" >= ");
-    write_number(sink, demand);
-    write_bytes(sink, b"\n");
-    end
+    let rows = graph.rows;
+    let arcs = nodes_of(rows, item)
+        .map(|node| 2 * node + 1)
+        .filter(|arc| head_of(rows, *arc).is_some());
+    write_arcs(sink, Lead::Added, 0, arcs);
+}
+
+fn write_item_row<S: Sink>(sink: &mut S, graph: LinkedGraph, item: usize, demand: usize)
+    ensures { S.took sink.old (constraint (item_row graph.entry.rows.now item demand)) sink.new }
+{
+    write_label(sink, b" d", item);
+    write_takes(sink, graph, item);
+    sink.put(b" >= ");
+    sink.put_number(demand);
+    sink.put(b"\n");
 }
 
 // The items are numbered from 1.
 pub(crate) fn write_item_rows<S: Sink>(sink: &mut S, graph: LinkedGraph, demands: &[u32])
-    requires { Ready graph }
-    ensures { Took S.step sink.old (flat_map constraint (item_rows graph.entry.rows.now 1 demands.now)) sink.new }
+    ensures { S.took sink.old (flat_map constraint (item_rows graph.entry.rows.now 1 demands.now)) sink.new }
 {
-    let mut start = 0;
-    for i in 0..demands.len() {
-        start = write_item_row(sink, graph.rows, i + 1, start, demands[i] as usize);
+    for (i, demand) in demands.iter().enumerate() {
+        write_item_row(sink, graph, i + 1, *demand as usize);
     }
 }

@@ -5,7 +5,6 @@ ghost use Rattle.lp.specs.Reading.{GraphsReadBack, ReadsBack, TextsDistinguish};
 ghost use Rattle.lp.specs.Samples.{Samples};
 
 mod arcs;
-mod bytes;
 mod constraints;
 mod links;
 pub mod render;

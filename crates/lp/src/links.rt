@@ -1,77 +1,86 @@
 // The arcs into each node as linked lists, so that a node's are found without a search over all arcs.
-ghost use Rattle.std.specs.Prelude.{◌≡◌, ℕ, ◌*◌, ◌<◌, ◌≤◌, List, length, IfSome};
+ghost use Rattle.std.specs.Prelude.{◌≡◌, ℕ, ◌*◌, ◌<◌, ◌≤◌, length, Some};
+ghost use Rattle.std.specs.Iterator.{YieldsFirst, item_count};
+ghost use Rattle.graph.specs.Graph.{Layered, head};
 ghost use Rattle.flow.specs.Arcs.{arcs_into};
-ghost use Rattle.flow.specs.Model.{minus};
-ghost use Rattle.flow.specs.Text.{entries, term};
-ghost use Rattle.lp.specs.Links.{Chain, Inside, Linked, Ready, Rising, first_with, next_with};
-ghost use Rattle.lp.specs.Sinks.{Took};
-ghost use Rattle.lp.specs.Writing.{arc_entry, leads};
+ghost use Rattle.lp.specs.Links.{Linked};
+ghost use Rattle.lp.specs.Writing.{InOrder};
 
-use crate::arcs::{Lead, target_of, write_arc_if};
-use crate::sink::Sink;
+use crate::arcs::head_of;
 use graph::Row;
+use std::mem;
 
 // A graph with the arcs into each node linked: the first arc into a node, and the next after an arc into the same node.
-// A number past the end of `next` ends a list. There may be more places than nodes and arcs.
+// The number past the last arc ends a list: fixed memory has no room for an Option at each place.
 #[derive(Clone, Copy)]
 pub(crate) struct LinkedGraph<'a> {
     pub(crate) rows: &'a [Row],
     pub(crate) first: &'a [u32],
     pub(crate) next: &'a [u32],
+    ghost few: { length rows.now ≤ 65535 },
+    ghost order: { InOrder rows.now },
+    ghost links: { Linked rows.now first.now next.now },
 }
 
-// Puts an arc before the others that lead to the same node.
-fn link_arc(row: Row, arc: usize, first: &mut [u32], next: &mut [u32])
-    requires few { length next.old ≤ 131070 }
-    requires within { arc < length next.old }
-    requires inside { IfSome (leads row arc) (λ v. v < length first.old) }
-    ensures first { first.new ≡ first_with (leads row arc) arc first.old }
-    ensures next { next.new ≡ next_with (leads row arc) arc first.old next.old }
-{
-    if let Some(to) = target_of(row, arc) {
-        next[arc] = first[to as usize];
-        first[to as usize] = arc as u32;
+impl<'a> LinkedGraph<'a> {
+    // Links the arcs into each node, by rising number, in memory with a place for each node and each arc.
+    pub(crate) fn new(rows: &'a [Row], first: &'a mut [u32], next: &'a mut [u32]) -> LinkedGraph<'a>
+        requires few { length rows.now ≤ 65535 }
+        requires layered { (m : ℕ) × Layered m rows.now }
+        requires nodes { length first.old ≡ length rows.now }
+        requires arcs { length next.old ≡ 2 * length rows.now }
+        ensures { result.rows.now ≡ rows.now }
+    {
+        let end = next.len();
+        first.fill(end as u32);
+        next.fill(end as u32);
+        // the number of an arc is what is stored, so the loop goes over the numbers
+        for arc in (0..end).rev() {
+            if let Some(to) = head_of(rows, arc) {
+                next[arc] = mem::replace(&mut first[to as usize], arc as u32);
+            }
+        }
+        LinkedGraph { rows, first, next }
     }
 }
 
-// The entries of the arcs that are linked from `start` on, after k others.
-pub(crate) fn write_linked<S: Sink>(sink: &mut S, next: &[u32], start: usize, lead: Lead, k: usize)
-    requires few { length next.now ≤ 131070 }
-    requires before { k ≤ 2 }
-    requires rising { Rising next.now }
-    ensures { (arcs : List ℕ) → Chain next.now start arcs → Took S.step sink.old (entries (arc_entry lead) k arcs) sink.new }
-{
-    let mut arc = start;
-    let mut count = k;
-    while arc < next.len() {
-        count = write_arc_if(sink, true, lead, count, arc);
-        arc = next[arc] as usize;
+// The arcs into a node that are still to come, by rising number: `arc` is the next of them.
+#[derive(Drop)]
+pub(crate) struct Incoming<'a> {
+    graph: LinkedGraph<'a>,
+    node: usize,
+    arc: usize,
+    ghost into: { arc < 2 * length graph.rows.now → head graph.rows.now arc ≡ Some node },
+    ghost within: { arc ≤ 2 * length graph.rows.now },
+}
+
+impl<'a> LinkedGraph<'a> {
+    ghost use Rattle.lp.specs.Incoming.{arcs_left};
+
+    // The arcs into a node.
+    pub(crate) fn incoming(self, node: usize) -> Incoming<'a>
+        requires { node < length self.rows.now }
+        ensures { arcs_left result ≡ arcs_into self.entry.rows.now node }
+    {
+        Incoming {
+            graph: self,
+            node,
+            arc: self.first[node] as usize,
+        }
     }
 }
 
-// What comes into a node, as terms after k others: its incoming arcs by rising number, found by their links.
-pub(crate) fn write_incoming<S: Sink>(sink: &mut S, graph: LinkedGraph, node: usize, k: usize)
-    requires ready { Ready graph }
-    requires there { node < length graph.rows.now }
-    requires before { k ≤ 2 }
-    ensures { Took S.step sink.old (entries term k (minus (arcs_into graph.entry.rows.now node))) sink.new }
-{
-    let start = graph.first[node] as usize;
-    write_linked(sink, graph.next, start, Lead::TakenOff, k);
-}
+impl Iterator for Incoming<'_> {
+    type Item = usize;
 
-// Links the arcs into each node, by rising number.
-pub(crate) fn link(rows: &[Row], first: &mut [u32], next: &mut [u32])
-    requires few { length next.old ≤ 131070 }
-    requires inside { Inside rows.now }
-    requires nodes { length rows.now ≤ length first.old }
-    requires arcs { 2 * length rows.now ≤ length next.old }
-    ensures { Linked rows.now first.new next.new }
-{
-    let end = next.len() as u32;
-    first.fill(end);
-    next.fill(end);
-    for arc in (0..2 * rows.len()).rev() {
-        link_arc(rows[arc / 2], arc, first, next);
+    ghost use Rattle.lp.specs.Incoming.{arcs_left};
+
+    ghost next_gives = { YieldsFirst arcs_left };
+
+    ghost remaining = { item_count arcs_left };
+
+    fn next(&mut self) -> Option<usize> {
+        let after = *self.graph.next.get(self.arc)?;
+        Some(mem::replace(&mut self.arc, after as usize))
     }
 }

@@ -3,13 +3,11 @@ ghost use Rattle.std.specs.Prelude.{◌≡◌, ℕ, ◌≤◌, length, nat_le};
 ghost use Rattle.graph.specs.Graph.{Layered};
 ghost use Rattle.flow.specs.Model.{model};
 ghost use Rattle.flow.specs.Text.{text};
-ghost use Rattle.lp.specs.Links.{Ready};
-ghost use Rattle.lp.specs.Sinks.{Fills, Stands, Took};
+ghost use Rattle.lp.specs.Sinks.{Fills, Stands};
 
 use crate::arcs::write_variables;
-use crate::bytes::write_bytes;
 use crate::constraints::{write_item_rows, write_node_rows};
-use crate::links::{LinkedGraph, link};
+use crate::links::LinkedGraph;
 use crate::sink::{Room, Sink, Writer};
 use graph::Row;
 
@@ -20,34 +18,28 @@ const NODES: usize = 65_535;
 const ARCS: usize = 2 * NODES;
 
 fn write_model<S: Sink>(sink: &mut S, graph: LinkedGraph, demands: &[u32])
-    requires { Ready graph }
-    ensures { Took S.step sink.old (text (model graph.entry.rows.now demands.now)) sink.new }
+    ensures { S.took sink.old (text (model graph.entry.rows.now demands.now)) sink.new }
 {
-    write_bytes(sink, b"Minimize\n obj: z\nSubject To\n");
+    sink.put(b"Minimize\n obj: z\nSubject To\n");
     write_node_rows(sink, graph);
     write_item_rows(sink, graph, demands);
-    write_bytes(sink, b"Generals\n z");
-    write_variables(sink, graph.rows);
-    write_bytes(sink, b"\nEnd\n");
+    sink.put(b"Generals\n z");
+    write_variables(sink, graph);
+    sink.put(b"\nEnd\n");
 }
 
 // Whether the text of the model has room in so many bytes.
 fn fits(graph: LinkedGraph, demands: &[u32], room: usize) -> bool
-    requires { Ready graph }
     ensures { result ≡ nat_le (length (text (model graph.entry.rows.now demands.now))) room }
 {
-    let mut measure = Room {
-        left: room,
-        short: false,
-    };
+    let mut measure = Room { left: Some(room) };
     write_model(&mut measure, graph, demands);
-    !measure.short
+    measure.left.is_some()
 }
 
 // The text of the model at the start of memory that has room for it. Answers its length.
 fn fill(graph: LinkedGraph, demands: &[u32], out: &mut [u8]) -> usize
-    requires ready { Ready graph }
-    requires room { length (text (model graph.rows.now demands.now)) ≤ length out.old }
+    requires { length (text (model graph.rows.now demands.now)) ≤ length out.old }
     ensures { Stands (text (model graph.entry.rows.now demands.now)) out.old result out.new }
 {
     let mut writer = Writer { out, at: 0 };
@@ -57,7 +49,6 @@ fn fill(graph: LinkedGraph, demands: &[u32], out: &mut [u8]) -> usize
 
 // The text is measured first, so that nothing is written where it does not fit.
 fn fill_if_fits(graph: LinkedGraph, demands: &[u32], out: &mut [u8]) -> Option<usize>
-    requires { Ready graph }
     ensures { Fills (text (model graph.entry.rows.now demands.now)) out.old result out.new }
 {
     if !fits(graph, demands, out.len()) {
@@ -73,12 +64,8 @@ pub fn model_text(rows: &[Row], demands: &[u32], out: &mut [u8]) -> Option<usize
     ensures { Fills (text (model rows.now demands.now)) out.old result out.new }
 {
     let mut first = [0; NODES];
+    let first = &mut first[..rows.len()];
     let mut next = [0; ARCS];
-    link(rows, &mut first, &mut next);
-    let graph = LinkedGraph {
-        rows,
-        first: &first,
-        next: &next,
-    };
-    fill_if_fits(graph, demands, out)
+    let next = &mut next[..2 * rows.len()];
+    fill_if_fits(LinkedGraph::new(rows, first, next), demands, out)
 }

@@ -1,31 +1,42 @@
 // What takes bytes: memory that they fill, or a count of the room that they need.
-ghost use Rattle.std.specs.Prelude.{ℕ, [], ◌∷◌};
-ghost use Rattle.lp.specs.Sinks.{Measured, Put};
+ghost use Rattle.std.specs.Prelude.{ℕ, List, decimal};
+ghost use Rattle.lp.specs.Sinks.{Measured, TakesInTurn, Written};
+ghost use Rattle.lp.specs.SinkLaws.{measured_in_turn, written_in_turn};
 
+use itoa::Buffer;
+
+// Not std's `fmt::Write`: a write there may fail for no reason that a contract knows, and a text that has room is never refused.
 pub(crate) trait Sink {
-    // holds of the sink before, a byte that it took, and the sink after
-    ghost step: { Self → ℕ → Self → Type 0 };
+    // holds of the sink before, the bytes that it took, and the sink after
+    ghost took: { Self → List ℕ → Self → Type 0 };
 
-    fn put(&mut self, byte: u8)
-        ensures { step self.old byte self.new };
+    fn put(&mut self, bytes: &[u8])
+        ensures { took self.old bytes.now self.new };
+
+    // The decimal digits of n.
+    final fn put_number(&mut self, n: usize)
+        ensures { took self.old (decimal n) self.new }
+    {
+        self.put(Buffer::new().format(n).as_bytes());
+    }
+
+    // what is taken piece by piece is taken as one
+    ghost in_turn: { TakesInTurn took };
 }
 
-// The room that is left, and whether there was too little.
+// The room that is left, or None where there was too little.
 #[derive(Clone, Copy)]
 pub(crate) struct Room {
-    pub(crate) left: usize,
-    pub(crate) short: bool,
+    pub(crate) left: Option<usize>,
 }
 
 impl Sink for Room {
-    ghost step = { λ s b t. Measured s (b ∷ []) t };
+    ghost took = { Measured };
 
-    fn put(&mut self, _byte: u8) {
-        if self.left == 0 {
-            self.short = true;
-        } else {
-            self.left -= 1;
-        }
+    ghost in_turn = { measured_in_turn };
+
+    fn put(&mut self, bytes: &[u8]) {
+        self.left = self.left.and_then(|left| left.checked_sub(bytes.len()));
     }
 }
 
@@ -37,12 +48,15 @@ pub(crate) struct Writer<'a> {
 }
 
 impl<'a> Sink for Writer<'a> {
-    ghost step = { Put };
+    ghost took = { Written };
 
-    fn put(&mut self, byte: u8) {
-        if self.at < self.out.len() {
-            self.out[self.at] = byte;
-            self.at += 1;
+    ghost in_turn = { written_in_turn };
+
+    fn put(&mut self, bytes: &[u8]) {
+        if self.at <= self.out.len() && bytes.len() <= self.out.len() - self.at {
+            let end = self.at + bytes.len();
+            self.out[self.at..end].copy_from_slice(bytes);
+            self.at = end;
         }
     }
 }

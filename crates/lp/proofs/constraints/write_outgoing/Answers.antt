@@ -1,24 +1,26 @@
-use Rattle.std.proofs.Common.{◌+◌, ◌*◌, ◌++◌, length, ◌∙◌, ap₂, arith}
-use Rattle.flow.specs.Model.{plus}
-use Rattle.flow.specs.Text.{entries, term}
-use Rattle.lp.specs.Writing.{only_if}
-use Rattle.lp.proofs.Rows.{two_entries, two_count, only_one}
-use Rattle.lp.proofs.Taking.{joins, same_bytes}
+use Rattle.std.proofs.Common.{◌≡◌, ◌+◌, ◌*◌, length, is_some, ap, ◌∙◌, arith, rules}
+use Rattle.std.proofs.lemmas.List.{length-map}
+use Rattle.graph.specs.Graph.{head}
+use Rattle.flow.specs.Arcs.{arcs_out}
+use Rattle.flow.specs.Model.{Term.Plus, Variable.X}
+use Rattle.flow.specs.Text.{entries}
+use Rattle.lp.specs.declared.arcs.Lead.TheVariants.{Added}
+use Rattle.lp.specs.Writing.{arc_entry}
+use Rattle.lp.proofs.Entries.{drained_range, plus_entries, same_bytes}
+use Rattle.lp.proofs.Rows.{arcs_of_node, few_of_node}
 use Rattle.lp.proofs.constraints.write_outgoing.Goals as goal
 
 pub returns : goal.returns
 returns g c =
-    let a = 2 * c.args.node in
-    let b = 2 * c.args.node + 1 in
-    let p = c.is_some.result in
-    let q = c.is_some-2.result in
-    let k = c.write_arc_if-k.result in
+    let rows = c.args.graph.rows.now in
+    let n = c.args.node in
+    let took = c.write_arcs.ensures.took in
+    let count = c.write_arcs.ensures.count in
+    let arcs = drained_range (λ a. is_some (head rows a)) (2 * n) (2 * n + 2) took.0 took.1 c.filter-arcs.ensures.source c.filter-arcs.ensures.closure (λ x b q k. search rules) in
+    let counted = drained_range (λ a. is_some (head rows a)) (2 * n) (2 * n + 2) count.0 count.1 c.filter-arcs.ensures.source c.filter-arcs.ensures.closure (λ x b q k. search rules) in
+    let long : length count.0 ≡ length (arcs_out rows n) = ap length (counted ∙ arcs_of_node rows n) in
     record {
-      took =
-          same_bytes (two_entries p q a b k c.write_arc_if-k.ensures.count ∙ ap₂ (λ x y. entries term 0 (plus (only_if x a ++ only_if y b))) c.is_some.ensures c.is_some-2.ensures)
-          (joins c.write_arc_if-k.ensures.took c.write_arc_if.ensures.took);
-      count =
-          two_count p q a b k c.write_arc_if.result c.write_arc_if-k.ensures.count c.write_arc_if.ensures.count
-          ∙ ap₂ (λ x y. length (plus (only_if x a ++ only_if y b))) c.is_some.ensures c.is_some-2.ensures;
-      few = omega (arith, c.write_arc_if-k.ensures.count, c.write_arc_if.ensures.count, only_one p a, only_one q b);
+      took = same_bytes g.S.Sink.took (ap (entries (arc_entry Added) 0) (arcs ∙ arcs_of_node rows n) ∙ plus_entries 0 (arcs_out rows n)) took.2;
+      count = omega (arith, count.2, length-map (arcs_out rows n) (λ a. Plus (X a)));
+      at_most = omega (arith, count.2, few_of_node rows n);
     }

@@ -1,31 +1,24 @@
-use Rattle.std.proofs.Common.{arith}
-use Rattle.lp.proofs.Items.{all_taken, next_begins, reached_few, reached_more, reached_start}
+use Rattle.std.proofs.Common.{◌-◌, is_some, ap, refl, ◌∙◌, rules}
+use Rattle.std.specs.Iterator.Adapters.{map_callee, map_source}
+use Rattle.std.proofs.lemmas.Iterator.{YieldsList-from_map, YieldsList-from_range}
+use Rattle.std.proofs.lemmas.Iterator.Consumers.{YieldsList-from_filter}
+use Rattle.graph.specs.Graph.{head, take_arc}
+use Rattle.flow.specs.Arcs.{item_arcs}
+use Rattle.flow.specs.Text.{entries}
+use Rattle.lp.specs.declared.arcs.Lead.TheVariants.{Added}
+use Rattle.lp.specs.Writing.{arc_entry}
+use Rattle.lp.proofs.Entries.{drained, plus_entries, same_bytes}
+use Rattle.lp.proofs.Items.{takes_each}
 use Rattle.lp.proofs.constraints.write_takes.Goals as goal
 
-pub loop-node-init : goal.loop-node-init
-loop-node-init g c = reached_start g.S.Sink.step c.args.rows.now c.args.item c.args.start c.requires.begin c.args.sink.now
-
-pub write_arc_if-count-requires : goal.write_arc_if-count-requires
-write_arc_if-count-requires g c =
-    omega (arith, reached_few g.S.Sink.step c.args.rows.now c.args.item c.args.start c.requires.begin c.loop-node.invariant c.requires.few)
-
-pub loop-node-preserved : goal.loop-node-preserved
-loop-node-preserved g c =
-    reached_more g.S.Sink.step c.args.rows.now c.args.item c.args.start c.requires.begin c.loop-node.invariant c.is_some.result
-    c.loop-node-test.true c.if-rows-node.true c.is_some.ensures c.write_arc_if-count.ensures.took c.write_arc_if-count.ensures.count
-
-pub returns-else-rows-node : goal.returns-else-rows-node
-returns-else-rows-node g c =
-    let reached = c.loop-node.invariant in
-    record {
-      took = all_taken g.S.Sink.step c.args.rows.now c.args.item c.args.start c.requires.begin reached c.requires.order (λ _. c.if-rows-node.false);
-      end = next_begins g.S.Sink.step c.args.rows.now c.args.item c.args.start c.requires.begin reached c.requires.order (λ _. c.if-rows-node.false);
-    }
-
-pub returns-after-loop-node : goal.returns-after-loop-node
-returns-after-loop-node g c =
-    let reached = c.loop-node.invariant in
-    record {
-      took = all_taken g.S.Sink.step c.args.rows.now c.args.item c.args.start c.requires.begin reached c.requires.order (λ l _. omega arith);
-      end = next_begins g.S.Sink.step c.args.rows.now c.args.item c.args.start c.requires.begin reached c.requires.order (λ l _. omega arith);
-    }
+pub returns : goal.returns
+returns g c =
+    let rows = c.args.graph.rows.now in
+    let nodes = c.nodes_of.result in
+    let source = c.filter-arcs.ensures.source in
+    let took = c.write_arcs.ensures.took in
+    let arcs = drained took.0 took.1
+        (YieldsList-from_filter _ (λ a. is_some (head rows a))
+        (YieldsList-from_map _ take_arc (YieldsList-from_range nodes.start nodes.end (nodes.end - nodes.start) (ap map_source source ∙ c.map.ensures.source) refl) (ap map_callee source ∙ c.map.ensures.closure) (λ x r q k. search rules))
+        c.filter-arcs.ensures.closure (λ x b q k. search rules)) in
+    same_bytes g.S.Sink.took (ap (entries (arc_entry Added) 0) (arcs ∙ takes_each rows c.args.item nodes.start nodes.end c.nodes_of.ensures) ∙ plus_entries 0 (item_arcs rows c.args.item)) took.2

@@ -1,12 +1,9 @@
-use Rattle.std.proofs.Common.{rules}
-use Rattle.lp.proofs.Chains.{layered_inside}
-use Rattle.lp.proofs.Items.{first_begins, layered_order}
+use Rattle.std.proofs.Common.{◌*◌, length, arith, sym, rules}
+use Rattle.std.proofs.lemmas.List.{length-take-le}
 use Rattle.lp.proofs.render.model_text.Goals as goal
 
-pub link-requires : goal.link-requires
-link-requires c =
-    let inside = layered_inside c.requires.layered.1 in
-    search rules
+pub slice_bounds-next-end-2 : goal.slice_bounds-next-end-2
+slice_bounds-next-end-2 c = sym (length-take-le (2 * length c.args.rows.now) _ (omega arith))
 
-pub fill_if_fits-requires : goal.fill_if_fits-requires
-fill_if_fits-requires c = record { few = c.requires.few; order = layered_order c.requires.layered.1; begin = first_begins c.requires.layered.1; linked = c.link.ensures }
+pub new-requires-clause-arcs : goal.new-requires-clause-arcs
+new-requires-clause-arcs c = length-take-le (2 * length c.args.rows.now) _ (search rules)
