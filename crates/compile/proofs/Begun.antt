@@ -1,64 +1,111 @@
 -- The graph item by item.
-use Rattle.std.proofs.Common.{◌≡◌, ℕ, suc, ◌+◌, ◌≤◌, List, [], ◌∷◌, ◌++◌, map, length, take, drop, Some, None, Option, sym, refl, ap, ◌∙◌, subst, arith, length-append}
+use Rattle.std.proofs.Common.{◌≡◌, ℕ, suc, ◌+◌, ◌<◌, ◌≤◌, List, [], ◌∷◌, ◌++◌, map, length, get_or, take, drop, Some, None, Option, sym, refl, ap, ◌∙◌, subst, arith, length-append}
 use lib.ListN.{length-map}
-use Rattle.std.proofs.lemmas.List.{append_assoc, append-nil, take_all, take_at, drop_at, length-take-le}
+use Rattle.std.proofs.lemmas.List.{append_assoc, append-nil, take_all, take_at, drop_at, drop_all, drop_more, length-take-le}
 use Rattle.limits.specs.Meaning.{Meaning}
+use Rattle.lists.specs.Entries.{entries}
 use Rattle.graph.specs.declared.Row.{Row}
 use Rattle.packing.specs.Distinct.{distinct, same_list}
 use Rattle.packing.specs.Packing.{Item}
 use Rattle.graph.specs.Graph.{row}
-use Rattle.graph.specs.Compiled.{place, layer, item_rows, rows_from, loads_from, compiled, loads}
+use Rattle.graph.specs.Compiled.{place, item_rows, rows_from, loads_from, compiled, loads}
 use Rattle.graph.proofs.Language.{length_item_rows}
 use Rattle.graph.proofs.Laws.{compiles_layered}
 use Rattle.graph.proofs.Room.{prefix_length, pass_prefix}
-use Rattle.compile.specs.Items.{Followed, Ended}
-use Rattle.compile.specs.Build.{Begun}
+use Rattle.compile.specs.declared.draft.Draft.{Draft}
+use Rattle.compile.specs.declared.weighed.Weighed.{Weighed}
+use Rattle.compile.specs.Drafts.{amounts}
+use Rattle.compile.specs.Items.{Opened, nodes_of, rows_of, next_of, Followed, Ended}
+use Rattle.compile.specs.Build.{Untargeted}
 
-module _ (k : Meaning) (items : List Item) where
+-- an item with its weight, as it is packed
+abbrev pub packed : {L : Type 0} → (L → List ℕ) → Weighed L → Item
+packed f x = record { weight = f x.weight; most = x.most }
+
+module _ {L : Type 0} (f : L → List ℕ) (k : Meaning) (items : List Item) where
+  -- Of the nodes so far those below `low` are complete, and the others are the first station of item j + 1, without arcs.
+  pub record Begun (j low : ℕ) (b : Draft L) : Type 0 where
+    pub opened : Opened f (j + 1) low b
+    pub rows : compiled k items ≡ take low (entries b.rows) ++ rows_from k (suc j) low (drop low (amounts f b)) (drop j items)
+    pub loads_are : loads k items ≡ take low (amounts f b) ++ loads_from k (drop low (amounts f b)) (drop j items)
+
   -- the source stands alone
-  pub begun_start : (rs : List Row) (xs : List (List ℕ)) → rs ≡ row 1 0 None None ∷ [] → xs ≡ k.empty ∷ [] → Begun k items rs xs 0 0
-  begun_start rs xs e f =
-      subst (λ (l : List Row). Begun k items l xs 0 0) (sym e) (subst (λ (l : List (List ℕ)). Begun k items (row 1 0 None None ∷ []) l 0 0) (sym f) (record {
-        within = omega arith;
-        paired = refl;
-        first = refl;
-        rows = refl;
-        amounts = refl;
-      }))
+  pub begun_start : (b : Draft L) → entries b.rows ≡ row 1 0 None None ∷ [] → amounts f b ≡ k.empty ∷ [] → Begun 0 0 b
+  begun_start b e h =
+      let start : (rs : List Row) (xs : List (List ℕ)) → rs ≡ row 1 0 None None ∷ [] → xs ≡ k.empty ∷ []
+      → (drop 0 rs ≡ map (λ _. row 1 0 None None) (drop 0 xs)) × (compiled k items ≡ take 0 rs ++ rows_from k 1 0 (drop 0 xs) (drop 0 items))
+      × (loads k items ≡ take 0 xs ++ loads_from k (drop 0 xs) (drop 0 items)) =
+      λ rs xs p q. rw (p, q) (refl, refl, refl) in
+      let all = start (entries b.rows) (amounts f b) e h in
+      record {
+        opened = record { within = omega arith; first = all.0 };
+        rows = all.1;
+        loads_are = all.2;
+      }
 
   length_compiled : length (compiled k items) ≡ suc (length (loads k items))
   length_compiled = (compiles_layered k items).1
 
-  module _ (rs : List Row) (xs : List (List ℕ)) (j low : ℕ) (x : Item) (begun : Begun k items rs xs j low) where
+  -- b is the graph at item x, the one at place j, which begins at `low`
+  module _ (b : Draft L) (j low : ℕ) (x : Weighed L) (number : x.number ≡ j + 1) (begun : Begun j low b) (lt : j < length items) (read : get_or items j (packed f x) ≡ packed f x) where
+    abbrev xs : List (List ℕ)
+    xs = amounts f b
+
+    abbrev rs : List Row
+    rs = entries b.rows
+
     abbrev station : List (List ℕ)
     station = drop low xs
 
     abbrev all : List (List ℕ)
-    all = layer k x.weight x.most station
+    all = nodes_of f k x low b
 
     abbrev next : List (List ℕ)
-    next = distinct same_list all
+    next = next_of f k x low b
+
+    left : drop j items ≡ packed f x ∷ drop (j + 1) items
+    left = drop_more items j (packed f x) lt ∙ ap (λ (z : Item). z ∷ drop (j + 1) items) read
 
     length_xs : length (take low xs) ≡ low
-    length_xs = length-take-le low xs begun.within
+    length_xs = length-take-le low xs (omega (arith, begun.opened.within, length-map (entries b.loads) f))
 
     length_rs : length (take low rs) ≡ low
-    length_rs = length-take-le low rs (omega (arith, begun.paired, begun.within))
+    length_rs = length-take-le low rs (omega (arith, b.paired, begun.opened.within))
 
     one : suc j ≡ j + 1
     one = omega arith
 
+    pub begun_opened : Opened f x.number low b
+    begun_opened = subst (λ (i : ℕ). Opened f i low b) (sym number) begun.opened
+
     -- another item follows
-    module _ (y : Item) (others : List Item) (left : drop j items ≡ x ∷ (y ∷ others)) (rest : drop (j + 1) items ≡ y ∷ others) where
-      pub begun_more : (qs : List Row) (ys : List (List ℕ)) (n : ℕ) → Followed k x.weight (j + 1) x.most low rs qs xs ys n → Begun k items qs ys (j + 1) n
-      begun_more qs ys n made =
+    module _ (more : j + 1 < length items) where
+      abbrev y : Item
+      y = get_or items (j + 1) (packed f x)
+
+      abbrev others : List Item
+      others = drop (j + 1 + 1) items
+
+      rest : drop (j + 1) items ≡ y ∷ others
+      rest = drop_more items (j + 1) (packed f x) more
+
+      two : drop j items ≡ packed f x ∷ (y ∷ others)
+      two = left ∙ ap (λ (l : List Item). packed f x ∷ l) rest
+
+      pub begun_more : (c : Draft L) (n : ℕ) → Followed f k x low b c n → Begun (j + 1) n c
+      begun_more c n made =
           let to : ℕ → List ℕ → Option ℕ = λ o a. Some (o + place a next) in
-          let done = item_rows k x.weight (to n) (j + 1) 0 x.most low station in
+          let done = item_rows k (f x.weight) (to n) (j + 1) 0 x.most low station in
           let new = map (λ (_ : List ℕ). row (j + 1 + 1) 0 None None) next in
-          let rows_split : qs ≡ (take low rs ++ done) ++ new = made.rows ∙ sym (append_assoc (take low rs) done new) in
+          let qs = entries c.rows in
+          let ys = amounts f c in
+          let rows_split : qs ≡ (take low rs ++ done) ++ new =
+          made.rows
+          ∙ ap (λ (i : ℕ). take low rs ++ (item_rows k (f x.weight) (to n) i 0 x.most low station ++ map (λ (_ : List ℕ). row (i + 1) 0 None None) next)) number
+          ∙ sym (append_assoc (take low rs) done new) in
           let rows_length : length (take low rs ++ done) ≡ n =
-          length-append (take low rs) done ∙ omega (arith, length_rs, length_item_rows k x.weight (to n) (j + 1) 0 x.most low station, made.begins) in
-          let loads_split : ys ≡ (take low xs ++ all) ++ next = made.amounts ∙ sym (append_assoc (take low xs) all next) in
+          length-append (take low rs) done ∙ omega (arith, length_rs, length_item_rows k (f x.weight) (to n) (j + 1) 0 x.most low station, made.begins) in
+          let loads_split : ys ≡ (take low xs ++ all) ++ next = made.loads ∙ sym (append_assoc (take low xs) all next) in
           let loads_length : length (take low xs ++ all) ≡ n = length-append (take low xs) all ∙ omega (arith, length_xs, made.begins) in
           let rows_front : take n qs ≡ take low rs ++ done = ap (take n) rows_split ∙ take_at (take low rs ++ done) new n rows_length in
           let rows_back : drop n qs ≡ new = ap (drop n) rows_split ∙ drop_at (take low rs ++ done) new n rows_length in
@@ -66,18 +113,18 @@ module _ (k : Meaning) (items : List Item) where
           let loads_back : drop n ys ≡ next = ap (drop n) loads_split ∙ drop_at (take low xs ++ all) next n loads_length in
           let long : length ys ≡ n + length next = ap length loads_split ∙ length-append (take low xs ++ all) next ∙ omega (arith, loads_length) in
           record {
-            within = omega (arith, long);
-            paired = ap length rows_split ∙ length-append (take low rs ++ done) new
-                ∙ omega (arith, rows_length, length-map next (λ (_ : List ℕ). row (j + 1 + 1) 0 None None), long);
-            first = rows_back ∙ ap (map (λ _. row (j + 1 + 1) 0 None None)) (sym loads_back);
-            rows = begun.rows ∙ ap (λ (l : List Item). take low rs ++ rows_from k (suc j) low station l) left
-                ∙ ap (λ (o : ℕ). take low rs ++ (item_rows k x.weight (to o) (suc j) 0 x.most low station ++ rows_from k (suc (suc j)) o next (y ∷ others))) (sym made.begins)
-                ∙ ap (λ (i : ℕ). take low rs ++ (item_rows k x.weight (to n) i 0 x.most low station ++ rows_from k (suc i) n next (y ∷ others))) one
+            opened = record {
+              within = omega (arith, long, length-map (entries c.loads) f);
+              first = rows_back ∙ ap (map (λ _. row (j + 1 + 1) 0 None None)) (sym loads_back);
+            };
+            rows = begun.rows ∙ ap (λ (l : List Item). take low rs ++ rows_from k (suc j) low station l) two
+                ∙ ap (λ (o : ℕ). take low rs ++ (item_rows k (f x.weight) (to o) (suc j) 0 x.most low station ++ rows_from k (suc (suc j)) o next (y ∷ others))) (sym made.begins)
+                ∙ ap (λ (i : ℕ). take low rs ++ (item_rows k (f x.weight) (to n) i 0 x.most low station ++ rows_from k (suc i) n next (y ∷ others))) one
                 ∙ sym (append_assoc (take low rs) done (rows_from k (suc (j + 1)) n next (y ∷ others)))
                 ∙ ap (λ (l : List Row). l ++ rows_from k (suc (j + 1)) n next (y ∷ others)) (sym rows_front)
                 ∙ ap (λ (l : List (List ℕ)). take n qs ++ rows_from k (suc (j + 1)) n l (y ∷ others)) (sym loads_back)
                 ∙ ap (λ (l : List Item). take n qs ++ rows_from k (suc (j + 1)) n (drop n ys) l) (sym rest);
-            amounts = begun.amounts ∙ ap (λ (l : List Item). take low xs ++ loads_from k station l) left
+            loads_are = begun.loads_are ∙ ap (λ (l : List Item). take low xs ++ loads_from k station l) two
                 ∙ sym (append_assoc (take low xs) all (loads_from k next (y ∷ others)))
                 ∙ ap (λ (l : List (List ℕ)). l ++ loads_from k next (y ∷ others)) (sym loads_front)
                 ∙ ap (λ (l : List (List ℕ)). take n ys ++ loads_from k l (y ∷ others)) (sym loads_back)
@@ -87,34 +134,37 @@ module _ (k : Meaning) (items : List Item) where
       -- the graph has at least the nodes up to the next item's first station
       pub begun_within : low + length all + length next ≤ length (compiled k items)
       begun_within =
-          let p = prefix_length (all ++ distinct same_list (take (length all) all)) (loads_from k station (x ∷ (y ∷ others))) (pass_prefix k x y others (length all) station) in
+          let p = prefix_length (all ++ distinct same_list (take (length all) all)) (loads_from k station (packed f x ∷ (y ∷ others))) (pass_prefix k (packed f x) y others (length all) station) in
           let e : length (all ++ distinct same_list (take (length all) all)) ≡ length all + length next =
           length-append all (distinct same_list (take (length all) all))
           ∙ ap (λ (l : List (List ℕ)). length all + length (distinct same_list l)) (take_all (length all) all (omega arith)) in
-          let whole : length (loads k items) ≡ low + length (loads_from k station (x ∷ (y ∷ others))) =
-          ap length (begun.amounts ∙ ap (λ (l : List Item). take low xs ++ loads_from k station l) left)
-          ∙ length-append (take low xs) (loads_from k station (x ∷ (y ∷ others))) ∙ omega (arith, length_xs) in
+          let whole : length (loads k items) ≡ low + length (loads_from k station (packed f x ∷ (y ∷ others))) =
+          ap length (begun.loads_are ∙ ap (λ (l : List Item). take low xs ++ loads_from k station l) two)
+          ∙ length-append (take low xs) (loads_from k station (packed f x ∷ (y ∷ others))) ∙ omega (arith, length_xs) in
           omega (arith, length_compiled, whole, p, e)
 
     -- the last item
-    module _ (left : drop j items ≡ x ∷ []) where
+    module _ (last : j + 1 ≡ length items) where
+      alone : drop j items ≡ packed f x ∷ []
+      alone = left ∙ ap (λ (l : List Item). packed f x ∷ l) (drop_all (j + 1) items (omega arith))
+
       whole_loads : loads k items ≡ take low xs ++ all
       whole_loads =
-          begun.amounts ∙ ap (λ (l : List Item). take low xs ++ loads_from k station l) left ∙ ap (λ (l : List (List ℕ)). take low xs ++ l) (append-nil all)
+          begun.loads_are ∙ ap (λ (l : List Item). take low xs ++ loads_from k station l) alone ∙ ap (λ (l : List (List ℕ)). take low xs ++ l) (append-nil all)
 
       pub begun_count : length (compiled k items) ≡ suc (low + length all)
       begun_count = length_compiled ∙ ap suc (ap length whole_loads ∙ length-append (take low xs) all ∙ omega (arith, length_xs))
 
-      pub begun_last : (qs : List Row) (ys : List (List ℕ)) (n : ℕ) → Ended k x.weight (j + 1) x.most low rs qs xs ys n
-          → (qs ≡ compiled k items) × (ys ≡ loads k items) × (n ≡ length (compiled k items))
-      begun_last qs ys n made = (
-        made.rows
-            ∙ ap (λ (i : ℕ). take low rs ++ (item_rows k x.weight (λ _. Some (low + length all)) i 0 x.most low station ++ row (i + 1) 0 None None ∷ [])) (sym one)
-            ∙ ap (λ (i : ℕ). take low rs ++ (item_rows k x.weight (λ _. Some (low + length all)) (suc j) 0 x.most low station ++ row i 0 None None ∷ [])) two
-            ∙ sym (begun.rows ∙ ap (λ (l : List Item). take low rs ++ rows_from k (suc j) low station l) left),
-        made.amounts ∙ sym whole_loads,
-        made.count ∙ sym begun_count,
-      )
-        where
-          two : suc j + 1 ≡ suc (suc j)
-          two = omega arith
+      pub begun_last : (c : Draft L) → Ended f k x low b c → Untargeted f k items c.rows c.loads
+      begun_last c made =
+          let to : List ℕ → Option ℕ = λ _. Some (low + length all) in
+          let number_is : x.number ≡ suc j = omega (arith, number) in
+          let target_is : suc (length items) ≡ suc (suc j) = omega (arith, last) in
+          record {
+            rows = ap (λ (l : List Row). l ++ row (suc (length items)) 0 None None ∷ []) made.rows
+                ∙ append_assoc (take low rs) (rows_of f k x low b to) (row (suc (length items)) 0 None None ∷ [])
+                ∙ ap (λ (i : ℕ). take low rs ++ (item_rows k (f x.weight) to i 0 x.most low station ++ row (suc (length items)) 0 None None ∷ [])) number_is
+                ∙ ap (λ (i : ℕ). take low rs ++ (item_rows k (f x.weight) to (suc j) 0 x.most low station ++ row i 0 None None ∷ [])) target_is
+                ∙ sym (begun.rows ∙ ap (λ (l : List Item). take low rs ++ rows_from k (suc j) low station l) alone);
+            amounts = made.loads ∙ sym whole_loads;
+          }

@@ -8,12 +8,11 @@ use Rattle.limits.specs.Meaning.{Meaning, joined}
 use Rattle.graph.specs.declared.Row.{Row}
 use Rattle.packing.specs.Distinct.{distinct, same_list}
 use Rattle.graph.specs.Graph.{row}
-use Rattle.graph.specs.Compiled.{place, raised, layer, row_taking}
+use Rattle.graph.specs.Compiled.{place, raised, layer, row_taking, item_rows}
 use Rattle.graph.proofs.Steps.{stage, stage_more, layer_more, taking_rows, taking_rows_more, item_rows_is}
 use Rattle.graph.proofs.Room.{layer_prefix, prefix_length}
-use Rattle.compile.specs.Nodes.{taking}
+use Rattle.compile.specs.Steps.{taking}
 use Rattle.compile.specs.Arcs.{listed, all_wanted, ends, arc, led_to, linked, Linked}
-use Rattle.compile.specs.Items.{Stations}
 
 pub map_same : {X Y : Type 0} (f g : X → Y) → ((x : X) → f x ≡ g x) → (xs : List X) → map f xs ≡ map g xs
 map_same f g same [] = refl
@@ -194,21 +193,14 @@ module _ (k : Meaning) (w : List ℕ) where
                   ∙ append_assoc (take low rs) (done (suc c)) (map (λ _. q) t);
             }
 
-        -- as the loop counts
-        pub copies_turn : (ps : List Row) (zs : List (List ℕ)) (n : ℕ) → n ≡ length ys → Linked taking sum_of (row i (c + 1) None None) from qs ps ys zs (n - from) → Copies ps zs (c + 1) n
-        copies_turn ps zs n long made =
-            let one : suc c ≡ c + 1 = omega arith in
-            subst (λ (m : ℕ). Copies ps zs m n) one
-            (copies_more ps zs n long (subst (λ (m : ℕ). Linked taking sum_of (row i m None None) from qs ps ys zs (n - from)) (sym one) made))
-
-        pub copies_end : (b : ℕ) → c ≡ b → Stations k w i b low rs qs xs ys
+        pub copies_end : (b : ℕ) → c ≡ b → (ys ≡ take low xs ++ layer k w b station) × (qs ≡ take low rs ++ item_rows k w (λ _. None) i 0 b low station)
         copies_end b e =
             let zero-add : 0 + c ≡ c = omega arith in
-            subst (λ (n : ℕ). Stations k w i n low rs qs xs ys) e (record {
-              amounts = so_far.amounts ∙ ap (λ (l : List (List ℕ)). take low xs ++ l) (lower_stage c station);
-              rows = so_far.rows ∙ ap (λ (n : ℕ). take low rs ++ (done c ++ map (λ _. row i n None None) here)) (sym zero-add)
-                  ∙ ap (λ (l : List Row). take low rs ++ l) (sym (item_rows_is k w (λ _. None) i 0 c low station));
-            })
+            subst (λ (n : ℕ). (ys ≡ take low xs ++ layer k w n station) × (qs ≡ take low rs ++ item_rows k w (λ _. None) i 0 n low station)) e (
+              so_far.amounts ∙ ap (λ (l : List (List ℕ)). take low xs ++ l) (lower_stage c station),
+              so_far.rows ∙ ap (λ (n : ℕ). take low rs ++ (done c ++ map (λ _. row i n None None) here)) (sym zero-add)
+                  ∙ ap (λ (l : List Row). take low rs ++ l) (sym (item_rows_is k w (λ _. None) i 0 c low station)),
+            )
 
       -- an earlier station ends no later
       pub copies_within : (c b : ℕ) → c < b → low + length (layer k w (suc c) station) ≤ low + length (layer k w b station)

@@ -1,9 +1,11 @@
--- Lists over lent memory grow step by step.
+-- Lists over lent memory, and graphs, grow step by step.
 use Rattle.std.proofs.Common.{◌≡◌, ℕ, ◌+◌, ◌-◌, ◌≤◌, [], ◌∷◌, length, drop, refl, ap, ◌∙◌, arith, length-append, length-drop}
 use Rattle.std.proofs.lemmas.List.{drop-drop}
 use Rattle.lists.specs.declared.list.List.{List as Grown}
 use Rattle.lists.specs.Entries.{entries, spare, SameMemory, Pushed}
-use Rattle.compile.specs.Growth.{Grew, GrewBoth, Short}
+use Rattle.compile.specs.declared.draft.Draft.{Draft}
+use Rattle.compile.specs.Growth.{Grew}
+use Rattle.compile.specs.Drafts.{GrewBoth, Short}
 
 module _ {T : Type 0} where
   -- nothing changed
@@ -54,13 +56,16 @@ module _ {T : Type 0} where
         memory = n;
       }
 
-module _ {S T : Type 0} where
-  pub grew_both_trans : (r q p : Grown S) (l m n : Grown T) → GrewBoth r q l m → GrewBoth q p m n → GrewBoth r p l n
-  grew_both_trans r q p l m n g h = record { rows = grew_trans r q p g.rows h.rows; loads = grew_trans l m n g.loads h.loads }
+module _ {L : Type 0} where
+  pub grew_both_same : (b : Draft L) → GrewBoth b b
+  grew_both_same b = record { rows = grew_same b.rows b.rows refl; loads = grew_same b.loads b.loads refl }
 
-  pub short_more : (r : Grown S) (l : Grown T) (i j : ℕ) → i ≤ j → Short r l i → Short r l j
-  short_more r l i j le lacks a b = lacks (omega arith) (omega arith)
+  pub grew_both_trans : (b c d : Draft L) → GrewBoth b c → GrewBoth c d → GrewBoth b d
+  grew_both_trans b c d g h = record { rows = grew_trans b.rows c.rows d.rows g.rows h.rows; loads = grew_trans b.loads c.loads d.loads g.loads h.loads }
+
+  pub short_more : (b : Draft L) (i j : ℕ) → i ≤ j → Short b i → Short b j
+  short_more b i j le lacks x y = lacks (omega arith) (omega arith)
 
   -- the memory of what grew is as small
-  pub short_back : (r q : Grown S) (l m : Grown T) (i : ℕ) → GrewBoth r q l m → Short q m i → Short r l i
-  short_back r q l m i g lacks a b = lacks (omega (arith, g.rows.room)) (omega (arith, g.loads.room))
+  pub short_back : (b c : Draft L) (i : ℕ) → GrewBoth b c → Short c i → Short b i
+  short_back b c i g lacks x y = lacks (omega (arith, g.rows.room)) (omega (arith, g.loads.room))

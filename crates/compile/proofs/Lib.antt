@@ -4,10 +4,9 @@ pub mod Links
 pub mod Turns
 pub mod Copies
 pub mod Rounds
-pub mod Target
 pub mod Passes
-pub mod WholeItems
 pub mod Begun
+pub mod Target
 pub mod Orders
 pub mod Progress
 pub mod Memory

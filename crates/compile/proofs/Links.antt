@@ -4,13 +4,14 @@ use lib.ListN.{length-map}
 use Rattle.std.specs.Option.{option_map}
 use Rattle.std.proofs.lemmas.List.{append_assoc, append-nil, map-append, take_more, take_at, drop_at, length-take-le, set-append_left, set-append_right, get_or_append_left, get_or-append_right, set-get_or}
 use Rattle.std.proofs.lemmas.Bool.{or_right}
-use Rattle.lists.specs.declared.list.List.{List as Grown}
+use Rattle.lists.specs.Entries.{entries}
 use Rattle.graph.specs.declared.Row.{Row}
 use Rattle.packing.specs.Distinct.{has, index, noted, noted_all, distinct, same_list}
 use Rattle.graph.specs.Graph.{at, blank}
 use Rattle.graph.specs.Compiled.{place}
 use Rattle.packing.proofs.Distinct.{noted_all_append, noted_all_keeps, index_append, has_noted, same_self, decides_same_list}
-use Rattle.compile.specs.Growth.{Short}
+use Rattle.compile.specs.declared.draft.Draft.{Draft}
+use Rattle.compile.specs.Drafts.{Short, amounts}
 use Rattle.compile.specs.Nodes.{Noted}
 use Rattle.compile.specs.Arcs.{listed, all_wanted, ends, arc, led_to, linked, Linked, Led, Lacking}
 
@@ -184,8 +185,10 @@ module _ (put : ℕ → Row → Row) (wanted : List ℕ → Option (List ℕ)) (
           linked_some x led.0 ps zs led.1.0 is led.1.1.0 (led.1.1.1 ∙ ap (λ (i : ℕ). set led.0 i (put led.1.0 (at led.0 i))) at_n)
 
       -- where there is no room for the next node, there is none for the whole
-      pub linked_short : {S T : Type 0} (r : Grown S) (l : Grown T) (o : Option (List ℕ)) → wanted (get_or station j []) ≡ o → Lacking o (length xs) ys r l → Short r l (length xs + length (ends wanted station))
-      linked_short r l None is lacking = absurd lacking
-      linked_short r l (Some x) is lacking =
-          let longer = ends_longer wanted station j lt x is (ap (has same_list x) (sym past) ∙ lacking.0) in
-          λ a b. lacking.1 (omega (arith, longer, linked_length)) (omega (arith, longer, linked_length))
+      pub linked_short : {L : Type 0} (f : L → List ℕ) (c : Draft L) (o : Option (List ℕ)) → wanted (get_or station j []) ≡ o → ys ≡ amounts f c → Lacking f o (length xs) c
+          → Short c (length xs + length (ends wanted station))
+      linked_short f c None is e lacking = absurd lacking
+      linked_short f c (Some x) is e lacking =
+          let longer = ends_longer wanted station j lt x is (ap (has same_list x) (sym past ∙ ap (drop (length xs)) e) ∙ lacking.0) in
+          let long : length (entries c.loads) ≡ length ys = sym (ap length e ∙ length-map (entries c.loads) f) in
+          λ a b. lacking.1 (omega (arith, longer, linked_length, long)) (omega (arith, longer, linked_length, long))

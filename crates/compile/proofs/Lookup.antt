@@ -1,40 +1,65 @@
 -- Looking for an amount, and adding it.
-use Rattle.std.proofs.Common.{◌≡◌, ℕ, suc, ◌+◌, ◌<◌, ◌≤◌, Bool, true, false, cond, List, [], ◌∷◌, ◌++◌, map, length, get_or, take, drop, set, Some, None, Decides, Option, sym, refl, ap, ◌∙◌, subst, arith, length-drop, take-append-drop}
+use Rattle.std.proofs.Common.{◌≡◌, ℕ, suc, ◌+◌, ◌-◌, ◌≤◌, Bool, true, false, cond, ◌||◌, Some, None, List, [], ◌∷◌, ◌++◌, map, length, take, drop, MatchOption, Decides, Option, sym, refl, ap, ◌∙◌, arith, length-drop, take-append-drop}
 use lib.ListN.{length-map}
-use Rattle.lists.specs.declared.list.List.{List as Grown}
-use Rattle.lists.specs.Entries.{entries, Pushed}
-use Rattle.compile.specs.Growth.{Short}
-use Rattle.std.proofs.lemmas.List.{append_assoc, get_or-map, map-append}
+use Rattle.std.specs.List.{position, position_from}
+use Rattle.std.specs.Option.{option_map}
+use Rattle.std.proofs.lemmas.List.{append_assoc, map-append, drop-map, take_all}
+use Rattle.std.proofs.lemmas.Iterator.Adapters.{position_from-zero}
 use Rattle.std.proofs.lemmas.Bool.{false≢true}
+use Rattle.lists.specs.Entries.{entries}
 use Rattle.graph.specs.declared.Row.{Row}
 use Rattle.packing.specs.Distinct.{has, index, same_list}
 use Rattle.packing.proofs.Distinct.{index_lt, index_new, same_self, decides_same_list}
-use Rattle.compile.specs.Nodes.{Noted}
-use Rattle.compile.specs.Arcs.{Led, Lacking}
-use Rattle.graph.specs.Graph.{at}
+use Rattle.compile.specs.declared.draft.Draft.{Draft}
+use Rattle.compile.specs.Drafts.{Added, amounts}
+use Rattle.compile.specs.Nodes.{Found, Noted, Reached}
 
 -- a test that decides whether two amounts are equal gives what their comparison gives
-pub told : (b : Bool) (x y : List ℕ) → Decides b (x ≡ y) → same_list x y ≡ b
-told true x y d = (decides_same_list x y).1 (d.0 refl)
+pub told : (b : Bool) (x y : List ℕ) → Decides b (x ≡ y) → b ≡ same_list x y
+told true x y d = sym ((decides_same_list x y).1 (d.0 refl))
 told false x y d = go (same_list x y) refl
   where
-    go : (c : Bool) → same_list x y ≡ c → same_list x y ≡ false
+    go : (c : Bool) → same_list x y ≡ c → false ≡ same_list x y
     go true e = absurd (false≢true (d.1 ((decides_same_list x y).0 e)))
-    go false e = e
+    go false e = sym e
 
--- what is found is one of the nodes
-pub found_below : (xs : List (List ℕ)) (from n : ℕ) (x : List ℕ) → has same_list x (drop from xs) ≡ true → n ≡ from + index same_list x (drop from xs) → n < length xs
-found_below xs from n x h e = omega (arith, e, index_lt same_list x (drop from xs) h, length-drop from xs)
+-- what lies past the first `from` elements
+pub rest_is : {T : Type 0} (from : ℕ) (l xs : List T) → l ≡ xs → take (length l - from) (drop from l) ≡ drop from xs
+rest_is from l xs e = rw e (take_all (length xs - from) (drop from xs) (omega (arith, length-drop from xs)))
+
+-- the first place of an amount
+module _ {L : Type 0} (f : L → List ℕ) (x : List ℕ) where
+  abbrev pub First : ℕ → List L → Option ℕ → Type 0
+  First i ys o = MatchOption o (has same_list x (map f ys) ≡ false) (λ n. (has same_list x (map f ys) ≡ true) × (n ≡ i + index same_list x (map f ys)))
+
+  first_from : (i : ℕ) (ys : List L) → First i ys (position_from (λ y. same_list x (f y)) i ys)
+  first_from i [] = refl
+  first_from i (y ∷ ys) = go (same_list x (f y)) (position_from (λ y. same_list x (f y)) (i + 1) ys) (first_from (i + 1) ys)
+    where
+      go : (b : Bool) (o : Option ℕ) → First (i + 1) ys o
+          → MatchOption (cond b (Some i) o) ((b || has same_list x (map f ys)) ≡ false)
+          (λ n. ((b || has same_list x (map f ys)) ≡ true) × (n ≡ i + cond b 0 (suc (index same_list x (map f ys)))))
+      go true o h = (refl, omega arith)
+      go false None h = h
+      go false (Some n) h = (h.0, omega (arith, h.1))
+
+  pub found_at : (from : ℕ) (xs ys : List L) (o : Option ℕ) → ys ≡ drop from xs → o ≡ position (λ y. same_list x (f y)) ys
+      → Found x from (map f xs) (option_map (λ i. from + i) o)
+  found_at from xs ys o cut e = go o (rw (e ∙ position_from-zero (λ y. same_list x (f y)) ys) (first_from 0 ys))
+    where
+      go : (o : Option ℕ) → First 0 ys o → Found x from (map f xs) (option_map (λ i. from + i) o)
+      go None h = rw (drop-map, ← cut) h
+      go (Some i) h = rw (drop-map, ← cut) (h.0, omega (arith, h.1))
 
 module _ (rs : List Row) (xs : List (List ℕ)) (from : ℕ) (x : List ℕ) (q : Row) where
-  pub noted_found : (n : ℕ) → has same_list x (drop from xs) ≡ true → n ≡ from + index same_list x (drop from xs) → Noted rs rs xs xs from x q n
+  noted_found : (n : ℕ) → has same_list x (drop from xs) ≡ true → n ≡ from + index same_list x (drop from xs) → Noted rs rs xs xs from x q n
   noted_found n h e = record {
     amounts = rw h (sym (take-append-drop from xs));
     rows = rw h refl;
     place = rw h e;
   }
 
-  pub noted_pushed : (qs : List Row) (ys : List (List ℕ)) (n : ℕ) → from ≤ length xs → has same_list x (drop from xs) ≡ false
+  noted_pushed : (qs : List Row) (ys : List (List ℕ)) (n : ℕ) → from ≤ length xs → has same_list x (drop from xs) ≡ false
       → qs ≡ rs ++ q ∷ [] → ys ≡ xs ++ x ∷ [] → n ≡ length xs → Noted rs qs xs ys from x q n
   noted_pushed qs ys n le h e f at =
       let seen = drop from xs in
@@ -48,27 +73,19 @@ module _ (rs : List Row) (xs : List (List ℕ)) (from : ℕ) (x : List ℕ) (q :
         place = rw h (omega (arith, at, last, length-drop from xs, le));
       }
 
--- the amount of a load that is read from a list
-pub read_amount : {L : Type 0} (f : L → List ℕ) (xs : List L) (i : ℕ) (x : L) → i < length xs → x ≡ get_or xs i x → get_or (map f xs) i [] ≡ f x
-read_amount f xs i x within read = get_or-map f xs i x [] within ∙ ap f (sym read)
+-- the node with a load of amount f x: it is found, or new
+module _ {L : Type 0} (f : L → List ℕ) (b : Draft L) (from n : ℕ) (x : L) (q : Row) where
+  pub reached_found : (c : Draft L) (m : ℕ) → c ≡ b → m ≡ n → Found (f x) from (amounts f b) (Some n) → Reached f from (f x) q b c (Some m)
+  reached_found c m e is found = rw (e, is) (noted_found (entries b.rows) (amounts f b) from (f x) q n found.0 found.1)
 
--- a new row, and its load
-module _ {L : Type 0} (f : L → List ℕ) (r s : Grown Row) (l m : Grown L) (x : L) (q : Row) (from i : ℕ) where
-  pub pushed_both : (n : ℕ) → from ≤ length (entries l) → has same_list (f x) (drop from (map f (entries l))) ≡ false → Pushed r s q i → Pushed l m x n
-      → Noted (entries r) (entries s) (map f (entries l)) (map f (entries m)) from (f x) q n
-  pushed_both n le h p added =
-      noted_pushed (entries r) (map f (entries l)) from (f x) q (entries s) (map f (entries m)) n (omega (arith, length-map (entries l) f)) h p.added
-      (ap (map f) added.added ∙ map-append f (entries l) (x ∷ [])) (omega (arith, added.place, length-map (entries l) f))
+  pub reached_new : (c d : Draft L) (m : ℕ) → c ≡ d → m ≡ n → from ≤ length (entries b.loads) → Found (f x) from (amounts f b) None → Added b d q x n
+      → Reached f from (f x) q b c (Some m)
+  reached_new c d m e is le lacks made =
+      let long = length-map (entries b.loads) f in
+      rw (e, is) (noted_pushed (entries b.rows) (amounts f b) from (f x) q (entries d.rows) (amounts f d) n (omega (arith, long)) lacks made.rows
+      (ap (map f) made.loads ∙ map-append f (entries b.loads) (x ∷ [])) (omega (arith, long, made.place)))
 
--- an arc whose end is known
-pub led_none : (put : ℕ → Row → Row) (o : Option (List ℕ)) (q : Row) (high n : ℕ) (rs : List Row) (xs : List (List ℕ)) → o ≡ None → Led put o q high n rs rs xs xs
-led_none put o q high n rs xs e = subst (λ (x : Option (List ℕ)). Led put x q high n rs rs xs xs) (sym e) (refl, refl)
-
-pub led_some : (put : ℕ → Row → Row) (o : Option (List ℕ)) (x : List ℕ) (q : Row) (high n : ℕ) (rs ms qs : List Row) (xs ys : List (List ℕ)) (t : ℕ) → o ≡ Some x
-    → Noted rs ms xs ys high x q t → qs ≡ set ms n (put t (at ms n)) → Led put o q high n rs qs xs ys
-led_some put o x q high n rs ms qs xs ys t e found wrote = subst (λ (p : Option (List ℕ)). Led put p q high n rs qs xs ys) (sym e) (ms, (t, (found, wrote)))
-
-pub lacking_some : {L : Type 0} (f : L → List ℕ) (o : Option (List ℕ)) (x : List ℕ) (high : ℕ) (r : Grown Row) (l : Grown L) → o ≡ Some x
-    → (has same_list x (drop high (map f (entries l))) ≡ false) × Short r l (suc (length (entries l))) → Lacking o high (map f (entries l)) r l
-lacking_some f o x high r l e h =
-    subst (λ (p : Option (List ℕ)). Lacking p high (map f (entries l)) r l) (sym e) (h.0, λ a b. h.1 (omega (arith, length-map (entries l) f)) (omega (arith, length-map (entries l) f)))
+  -- its number is small
+  pub found_below : Found (f x) from (amounts f b) (Some n) → n ≤ 65535
+  found_below found =
+      omega (arith, b.few, found.1, index_lt same_list (f x) (drop from (amounts f b)) found.0, length-drop from (amounts f b), length-map (entries b.loads) f)

@@ -1,16 +1,23 @@
 -- An item that is complete: the pass arcs of all its nodes.
-use Rattle.std.proofs.Common.{◌≡◌, ℕ, zero, suc, ◌+◌, ◌-◌, ◌≤◌, List, [], ◌∷◌, ◌++◌, map, length, take, drop, Some, None, Option, sym, refl, ap, ◌∙◌, arith, length-append}
+use Rattle.std.proofs.Common.{◌≡◌, ℕ, zero, suc, ◌+◌, ◌-◌, ◌≤◌, List, [], ◌∷◌, ◌++◌, map, length, take, drop, Some, None, Option, sym, refl, ap, ◌∙◌, subst, arith, length-append, MatchOption}
 use lib.ListN.{length-map}
 use Rattle.std.proofs.lemmas.List.{append_assoc, take_all, take_at, drop_at, length-take-le}
 use Rattle.limits.specs.Meaning.{Meaning}
+use Rattle.lists.specs.declared.list.List.{List as Grown}
+use Rattle.lists.specs.Entries.{entries}
 use Rattle.graph.specs.declared.Row.{Row}
 use Rattle.packing.specs.Distinct.{distinct, same_list}
 use Rattle.graph.specs.Graph.{row}
 use Rattle.graph.specs.Compiled.{place, raised, layer, row_taking, item_rows}
 use Rattle.graph.proofs.Language.{length_item_rows}
-use Rattle.compile.specs.Nodes.{passing}
-use Rattle.compile.specs.Arcs.{all_wanted, ends, arc, led_to, linked, Linked}
-use Rattle.compile.specs.Items.{Stations, Followed, Ended}
+use Rattle.compile.specs.declared.draft.Draft.{Draft}
+use Rattle.compile.specs.declared.step.Step.TheVariants.{Pass}
+use Rattle.compile.specs.declared.weighed.Weighed.{Weighed}
+use Rattle.compile.specs.Drafts.{GrewBoth, Short, amounts}
+use Rattle.compile.specs.Steps.{passing}
+use Rattle.compile.specs.Arcs.{all_wanted, ends, arc, led_to, linked, Leads}
+use Rattle.compile.specs.Items.{nodes_of, rows_of, next_of, Stations, Followed, Ended}
+use Rattle.compile.proofs.Growth.{short_back}
 use Rattle.compile.proofs.Copies.{linked_map}
 
 linked_append : (put : ℕ → Row → Row) (to : List ℕ → Option ℕ) (rs qs : List Row) (xs ys : List (List ℕ)) → length rs ≡ length xs
@@ -48,82 +55,79 @@ module _ (k : Meaning) (w : List ℕ) where
       (linked_map passing (λ a. Some (to a)) (row_taking k w (λ _. None) i c (o + length s) t) s)
       ∙ ap (λ (l : List Row). map (row_taking k w (λ a. Some (to a)) i c (o + length s) t) s ++ l) (passed to i (suc c) b (o + length s) t)
 
-  module _ (i b low : ℕ) (rs ps : List Row) (xs zs : List (List ℕ)) (within : low ≤ length xs) (paired : length rs ≡ length xs) (made : Stations k w i b low rs ps xs zs) where
-    abbrev all : List (List ℕ)
-    all = layer k w b (drop low xs)
+-- x is the item, b the graph before it, and c that with all its stations
+module _ {L : Type 0} (f : L → List ℕ) (k : Meaning) (x : Weighed L) (low : ℕ) (b c : Draft L) (within : low ≤ length (entries b.loads)) (made : Stations f k x low b c) where
+  abbrev all : List (List ℕ)
+  all = nodes_of f k x low b
 
-    abbrev bare : List Row
-    bare = item_rows k w (λ _. None) i 0 b low (drop low xs)
+  abbrev bare : List Row
+  bare = rows_of f k x low b (λ _. None)
 
-    length_xs : length (take low xs) ≡ low
-    length_xs = length-take-le low xs within
+  length_xs : length (take low (amounts f b)) ≡ low
+  length_xs = length-take-le low (amounts f b) (omega (arith, within, length-map (entries b.loads) f))
 
-    length_rs : length (take low rs) ≡ low
-    length_rs = length-take-le low rs (omega (arith, paired))
+  length_rs : length (take low (entries b.rows)) ≡ low
+  length_rs = length-take-le low (entries b.rows) (omega (arith, b.paired, within))
 
-    length_bare : length bare ≡ length all
-    length_bare = length_item_rows k w (λ _. None) i 0 b low (drop low xs)
+  pub item_length : length (entries c.loads) ≡ low + length all
+  item_length =
+      sym (length-map (entries c.loads) f) ∙ ap length made.loads ∙ length-append (take low (amounts f b)) all ∙ omega (arith, length_xs)
 
-    pub made_length : length zs ≡ low + length all
-    made_length = ap length made.amounts ∙ length-append (take low xs) all ∙ omega (arith, length_xs)
+  last_amounts : drop low (amounts f c) ≡ all
+  last_amounts = ap (drop low) made.loads ∙ drop_at (take low (amounts f b)) all low length_xs
 
-    pub made_paired : length ps ≡ length zs
-    made_paired = ap length made.rows ∙ length-append (take low rs) bare ∙ omega (arith, length_rs, length_bare, made_length)
+  last_rows : drop low (entries c.rows) ≡ bare
+  last_rows = ap (drop low) made.rows ∙ drop_at (take low (entries b.rows)) bare low length_rs
 
-    last_amounts : drop low zs ≡ all
-    last_amounts = ap (drop low) made.amounts ∙ drop_at (take low xs) all low length_xs
+  first_rows : take low (entries c.rows) ≡ take low (entries b.rows)
+  first_rows = ap (take low) made.rows ∙ take_at (take low (entries b.rows)) bare low length_rs
 
-    last_rows : drop low ps ≡ bare
-    last_rows = ap (drop low) made.rows ∙ drop_at (take low rs) bare low length_rs
+  -- the pass arcs to the next item
+  pub followed : (d : Draft L) (q : Row) (o : Option ℕ) → q ≡ row (x.number + 1) 0 None None → GrewBoth b c → Leads f k Pass q low c d o
+      → MatchOption o (Short b (low + length all + length (next_of f k x low b))) (Followed f k x low b d)
+  followed d q None is grew short =
+      short_back b c (low + length all + length (next_of f k x low b)) grew
+      (subst (λ (n : ℕ). Short c n) (omega (arith, item_length, ap (λ (l : List (List ℕ)). length (ends (λ a. Some a) l)) last_amounts ∙ ap length (ends_all all))) short)
+  followed d q (Some n) is grew leads =
+      let t = next_of f k x low b in
+      let next = row (x.number + 1) 0 None None in
+      let to : ℕ → List ℕ → Option ℕ = λ m a. Some (m + place a t) in
+      let led = leads.1 in
+      let long : n ≡ length (amounts f c) = leads.0 ∙ sym (length-map (entries c.loads) f) in
+      let count : length (entries c.loads) - low ≡ length all = omega (arith, item_length) in
+      let whole : take (length (entries c.loads) - low) (drop low (amounts f c)) ≡ all =
+      ap (take (length (entries c.loads) - low)) last_amounts ∙ take_all (length (entries c.loads) - low) all (omega (arith, count)) in
+      let new : ends (λ a. Some a) (take (length (entries c.loads) - low) (drop low (amounts f c))) ≡ t = ap (ends (λ a. Some a)) whole ∙ ends_all all in
+      let to_is : ends (λ a. Some a) (drop low (amounts f c)) ≡ t = ap (ends (λ a. Some a)) last_amounts ∙ ends_all all in
+      let arcs : linked passing (arc (λ a. Some a) (length (amounts f c)) (ends (λ a. Some a) (drop low (amounts f c)))) (length (entries c.loads) - low) (drop low (entries c.rows)) (drop low (amounts f c))
+      ≡ rows_of f k x low b (to n) =
+      ap (λ (l : List (List ℕ)). linked passing (arc (λ a. Some a) (length (amounts f c)) l) (length (entries c.loads) - low) (drop low (entries c.rows)) (drop low (amounts f c))) to_is
+      ∙ ap (λ (m : ℕ). linked passing (to m) (length (entries c.loads) - low) (drop low (entries c.rows)) (drop low (amounts f c))) (sym long)
+      ∙ ap (λ (m : ℕ). linked passing (to n) m (drop low (entries c.rows)) (drop low (amounts f c))) count
+      ∙ ap (λ (l : List Row). linked passing (to n) (length all) l (drop low (amounts f c))) last_rows
+      ∙ ap (linked passing (to n) (length all) bare) last_amounts
+      ∙ passed k (f x.weight) (λ a. n + place a t) x.number 0 x.most low (drop low (amounts f b)) in
+      record {
+        begins = leads.0 ∙ item_length;
+        loads = led.amounts ∙ ap (λ (l : List (List ℕ)). amounts f c ++ l) new ∙ ap (λ (l : List (List ℕ)). l ++ t) made.loads ∙ append_assoc (take low (amounts f b)) all t;
+        rows = led.rows
+            ∙ ap (λ (l : List (List ℕ)). (take low (entries c.rows) ++ linked passing (arc (λ a. Some a) (length (amounts f c)) (ends (λ a. Some a) (drop low (amounts f c)))) (length (entries c.loads) - low) (drop low (entries c.rows)) (drop low (amounts f c))) ++ map (λ _. q) l) new
+            ∙ ap (λ (l : List Row). (take low (entries c.rows) ++ l) ++ map (λ _. q) t) arcs
+            ∙ ap (λ (l : List Row). (l ++ rows_of f k x low b (to n)) ++ map (λ _. q) t) first_rows
+            ∙ append_assoc (take low (entries b.rows)) (rows_of f k x low b (to n)) (map (λ _. q) t)
+            ∙ ap (λ (p : Row). take low (entries b.rows) ++ (rows_of f k x low b (to n) ++ map (λ _. p) t)) is;
+      }
 
-    first_rows : take low ps ≡ take low rs
-    first_rows = ap (take low) made.rows ∙ take_at (take low rs) bare low length_rs
-
-    -- so many nodes there are with the next item's first station
-    pub followed_count : length zs + length (ends (λ a. Some a) (drop low zs)) ≡ low + length all + length (distinct same_list all)
-    followed_count = omega (arith, made_length, ap (λ (l : List (List ℕ)). length (ends (λ a. Some a) l)) last_amounts ∙ ap length (ends_all all))
-
-    pub followed : (qs : List Row) (ys : List (List ℕ)) (n : ℕ) → n ≡ length zs → Linked passing (λ a. Some a) (row (i + 1) 0 None None) low ps qs zs ys (n - low)
-        → Followed k w i b low rs qs xs ys n
-    followed qs ys n long led =
-        let t = distinct same_list all in
-        let q = row (i + 1) 0 None None in
-        let to : ℕ → List ℕ → Option ℕ = λ m a. Some (m + place a t) in
-        let count : n - low ≡ length all = omega (arith, long, made_length) in
-        let whole : take (n - low) (drop low zs) ≡ all = ap (take (n - low)) last_amounts ∙ take_all (n - low) all (omega (arith, count)) in
-        let new : ends (λ a. Some a) (take (n - low) (drop low zs)) ≡ t = ap (ends (λ a. Some a)) whole ∙ ends_all all in
-        let to_is : ends (λ a. Some a) (drop low zs) ≡ t = ap (ends (λ a. Some a)) last_amounts ∙ ends_all all in
-        let arcs : linked passing (arc (λ a. Some a) (length zs) (ends (λ a. Some a) (drop low zs))) (n - low) (drop low ps) (drop low zs)
-        ≡ item_rows k w (to n) i 0 b low (drop low xs) =
-        ap (λ (l : List (List ℕ)). linked passing (arc (λ a. Some a) (length zs) l) (n - low) (drop low ps) (drop low zs)) to_is
-        ∙ ap (λ (m : ℕ). linked passing (to m) (n - low) (drop low ps) (drop low zs)) (sym long)
-        ∙ ap (λ (m : ℕ). linked passing (to n) m (drop low ps) (drop low zs)) count
-        ∙ ap (λ (l : List Row). linked passing (to n) (length all) l (drop low zs)) last_rows
-        ∙ ap (linked passing (to n) (length all) bare) last_amounts
-        ∙ passed (λ a. n + place a t) i 0 b low (drop low xs) in
-        record {
-          begins = long ∙ made_length;
-          amounts = led.amounts ∙ ap (λ (l : List (List ℕ)). zs ++ l) new ∙ ap (λ (l : List (List ℕ)). l ++ t) made.amounts ∙ append_assoc (take low xs) all t;
-          rows = led.rows
-              ∙ ap (λ (l : List (List ℕ)). (take low ps ++ linked passing (arc (λ a. Some a) (length zs) (ends (λ a. Some a) (drop low zs))) (n - low) (drop low ps) (drop low zs)) ++ map (λ _. q) l) new
-              ∙ ap (λ (l : List Row). (take low ps ++ l) ++ map (λ _. q) t) arcs
-              ∙ ap (λ (l : List Row). (l ++ item_rows k w (to n) i 0 b low (drop low xs)) ++ map (λ _. q) t) first_rows
-              ∙ append_assoc (take low rs) (item_rows k w (to n) i 0 b low (drop low xs)) (map (λ _. q) t);
-        }
-
-    pub ended : (os qs : List Row) (n : ℕ) → os ≡ take low ps ++ map (passing (length ps)) (drop low ps) → n ≡ suc (length os) → qs ≡ os ++ row (i + 1) 0 None None ∷ []
-        → Ended k w i b low rs qs xs zs n
-    ended os qs n led long last =
-        let h : length ps ≡ low + length all = made_paired ∙ made_length in
-        let q = row (i + 1) 0 None None in
-        let done = item_rows k w (λ _. Some (low + length all)) i 0 b low (drop low xs) in
-        let arcs : map (passing (length ps)) (drop low ps) ≡ done =
-        ap (λ (m : ℕ). map (passing m) (drop low ps)) h ∙ ap (map (passing (low + length all))) last_rows
-        ∙ linked_to passing (low + length all) bare all length_bare ∙ passed (λ _. low + length all) i 0 b low (drop low xs) in
-        let whole : os ≡ take low rs ++ done = led ∙ ap (λ (l : List Row). take low ps ++ l) arcs ∙ ap (λ (l : List Row). l ++ done) first_rows in
-        record {
-          count = long ∙ ap suc (ap length whole ∙ length-append (take low rs) done
-              ∙ omega (arith, length_rs, length_item_rows k w (λ _. Some (low + length all)) i 0 b low (drop low xs)));
-          amounts = made.amounts;
-          rows = last ∙ ap (λ (l : List Row). l ++ q ∷ []) whole ∙ append_assoc (take low rs) done (q ∷ []);
-        }
+  -- the pass arcs to the target
+  pub ended : (d : Draft L) → entries d.rows ≡ take low (entries c.rows) ++ map (passing (length (entries c.rows))) (drop low (entries c.rows)) → d.loads ≡ c.loads → Ended f k x low b d
+  ended d led same =
+      let h : length (entries c.rows) ≡ low + length all = c.paired ∙ item_length in
+      let arcs : map (passing (length (entries c.rows))) (drop low (entries c.rows)) ≡ rows_of f k x low b (λ _. Some (low + length all)) =
+      ap (λ (m : ℕ). map (passing m) (drop low (entries c.rows))) h ∙ ap (map (passing (low + length all))) last_rows
+      ∙ linked_to passing (low + length all) bare all (length_item_rows k (f x.weight) (λ _. None) x.number 0 x.most low (drop low (amounts f b)))
+      ∙ passed k (f x.weight) (λ _. low + length all) x.number 0 x.most low (drop low (amounts f b)) in
+      record {
+        loads = ap (λ (l : Grown L). map f (entries l)) same ∙ made.loads;
+        rows = led ∙ ap (λ (l : List Row). take low (entries c.rows) ++ l) arcs
+            ∙ ap (λ (l : List Row). l ++ rows_of f k x low b (λ _. Some (low + length all))) first_rows;
+      }

@@ -1,67 +1,87 @@
--- The loop over the copies of one item, at its lists.
-use Rattle.std.proofs.Common.{◌≡◌, ℕ, ◌+◌, ◌-◌, ◌<◌, ◌≤◌, List, map, length, drop, Some, None, sym, refl, ◌∙◌, subst, arith}
+-- The loop over the copies of one item.
+use Rattle.std.proofs.Common.{◌≡◌, ℕ, suc, ◌+◌, ◌-◌, ◌≤◌, List, length, drop, Some, None, Option, sym, ap, ◌∙◌, subst, arith}
 use lib.ListN.{length-map}
 use Rattle.limits.specs.Meaning.{Meaning, joined}
-use Rattle.lists.specs.declared.list.List.{List as Grown}
 use Rattle.lists.specs.Entries.{entries}
 use Rattle.graph.specs.declared.Row.{Row}
 use Rattle.graph.specs.Graph.{row}
-use Rattle.graph.specs.Compiled.{layer}
-use Rattle.compile.specs.Growth.{GrewBoth, Short}
-use Rattle.compile.specs.Nodes.{taking}
+use Rattle.compile.specs.declared.draft.Draft.{Draft}
+use Rattle.compile.specs.declared.step.Step.TheVariants.{Take}
+use Rattle.compile.specs.declared.weighed.Weighed.{Weighed}
+use Rattle.compile.specs.Drafts.{GrewBoth, Short, amounts}
+use Rattle.compile.specs.Steps.{taking}
 use Rattle.compile.specs.Arcs.{ends, Linked, Leads}
-use Rattle.compile.specs.Items.{Stations}
-use Rattle.compile.proofs.Growth.{grew_same, grew_both_trans, short_more, short_back}
-use Rattle.compile.proofs.Copies.{Copies, copies_start, copies_length, copies_paired, copies_next, copies_turn, copies_end, copies_within}
+use Rattle.compile.specs.Items.{Opened, nodes_of, Stations}
+use Rattle.compile.proofs.Growth.{grew_both_same, grew_both_trans, short_more, short_back}
+use Rattle.compile.proofs.Copies.{Copies, copies_start, copies_length, copies_next, copies_more, copies_end, copies_within}
 
-module _ {L : Type 0} (f : L → List ℕ) (k : Meaning) (w : List ℕ) (i low : ℕ) where
-  -- r and l are the rows and the loads before the loop, s and m those now; the station of c copies begins at `from`
-  pub record Round (r s : Grown Row) (l m : Grown L) (c from : ℕ) : Type 0 where
-    pub kept : GrewBoth r s l m
-    pub made : Copies k w i low (entries r) (map f (entries l)) (entries s) (map f (entries m)) c from
+module _ {L : Type 0} (f : L → List ℕ) (k : Meaning) (x : Weighed L) (low : ℕ) (b : Draft L) where
+  -- c is the graph now, with the stations of less than m copies; the last of them begins at `from`
+  pub record Round (c : Draft L) (m from : ℕ) : Type 0 where
+    pub kept : GrewBoth b c
+    pub made : Copies k (f x.weight) x.number low (entries b.rows) (amounts f b) (entries c.rows) (amounts f c) (m - 1) from
+    pub reach : m ≤ x.most + 1
 
-  module _ (r : Grown Row) (l : Grown L) (within : low ≤ length (entries l)) (paired : length (entries r) ≡ length (entries l))
-      (first : drop low (entries r) ≡ map (λ _. row i 0 None None) (drop low (map f (entries l)))) where
-    abbrev amounts : List (List ℕ)
-    amounts = map f (entries l)
+  module _ (opened : Opened f x.number low b) where
+    long_b : length (amounts f b) ≡ length (entries b.loads)
+    long_b = length-map (entries b.loads) f
 
-    low_in : low ≤ length amounts
-    low_in = omega (arith, length-map (entries l) f)
+    low_in : low ≤ length (amounts f b)
+    low_in = omega (arith, long_b, opened.within)
 
-    even : length (entries r) ≡ length amounts
-    even = omega (arith, paired, length-map (entries l) f)
+    even : length (entries b.rows) ≡ length (amounts f b)
+    even = b.paired ∙ sym long_b
 
-    pub round_start : Round r r l l 0 low
+    pub round_start : Round b 1 low
     round_start = record {
-      kept = record { rows = grew_same r r refl; loads = grew_same l l refl };
-      made = copies_start k w i low (entries r) amounts low_in even first;
+      kept = grew_both_same b;
+      made = copies_start k (f x.weight) x.number low (entries b.rows) (amounts f b) low_in even opened.first;
+      reach = omega arith;
     }
 
-    module _ (s : Grown Row) (m : Grown L) (c from : ℕ) (round : Round r s l m c from) where
-      pub round_within : from ≤ length (entries m)
+    module _ (c : Draft L) (m from : ℕ) (round : Round c m from) where
+      pub round_within : from ≤ length (entries c.loads)
       round_within =
-          omega (arith, copies_length k w i low (entries r) amounts low_in even first (entries s) (map f (entries m)) c from round.made, length-map (entries m) f)
+          omega (
+            arith,
+            copies_length k (f x.weight) x.number low (entries b.rows) (amounts f b) low_in even opened.first (entries c.rows) (amounts f c) (m - 1) from round.made,
+            length-map (entries c.loads) f,
+          )
 
-      pub round_paired : length (entries s) ≡ length (entries m)
-      round_paired = copies_paired k w i low (entries r) amounts low_in even first (entries s) (map f (entries m)) c from round.made ∙ length-map (entries m) f
+      module _ (one : 1 ≤ m) (le : m ≤ x.most) where
+        here : suc (m - 1) ≡ m
+        here = omega arith
 
-      pub round_more : (s' : Grown Row) (m' : Grown L) (next : ℕ) → GrewBoth s s' m m'
-          → Leads f taking (λ a. joined k a w) (row i (c + 1) None None) from s s' m m' (Some next) → Round r s' l m' (c + 1) next
-      round_more s' m' next grew leads =
-          let long : length (entries m) ≡ next = sym leads.0 in
-          record {
-            kept = grew_both_trans r s s' l m m' round.kept grew;
-            made = copies_turn k w i low (entries r) amounts low_in even first (entries s) (map f (entries m)) c from round.made (entries s') (map f (entries m')) next
-                (leads.0 ∙ sym (length-map (entries m) f))
-                (subst (λ (n : ℕ). Linked taking (λ a. joined k a w) (row i (c + 1) None None) from (entries s) (entries s') (map f (entries m)) (map f (entries m')) (n - from)) long leads.1);
-          }
+        pub round_more : (d : Draft L) (next : ℕ) (q : Row) → q ≡ row x.number m None None → GrewBoth c d → Leads f k (Take x.weight) q from c d (Some next) → Round d (m + 1) next
+        round_more d next q is grew leads =
+            let to : List ℕ → Option (List ℕ) = λ a. joined k a (f x.weight) in
+            let long : length (entries c.loads) ≡ next = sym leads.0 in
+            let after : suc (m - 1) ≡ m + 1 - 1 = omega arith in
+            let new : q ≡ row x.number (suc (m - 1)) None None = is ∙ ap (λ (j : ℕ). row x.number j None None) (sym here) in
+            let led = subst (λ (n : ℕ). Linked taking to q from (entries c.rows) (entries d.rows) (amounts f c) (amounts f d) (n - from)) long leads.1 in
+            record {
+              kept = grew_both_trans b c d round.kept grew;
+              made = subst (λ (j : ℕ). Copies k (f x.weight) x.number low (entries b.rows) (amounts f b) (entries d.rows) (amounts f d) j next) after
+                  (copies_more k (f x.weight) x.number low (entries b.rows) (amounts f b) low_in even opened.first (entries c.rows) (amounts f c) (m - 1) from round.made
+                  (entries d.rows) (amounts f d) next (leads.0 ∙ sym (length-map (entries c.loads) f))
+                  (subst (λ (p : Row). Linked taking to p from (entries c.rows) (entries d.rows) (amounts f c) (amounts f d) (next - from)) new led));
+              reach = omega arith;
+            }
 
-      pub round_short : (b : ℕ) → c < b → Short s m (length (entries m) + length (ends (λ a. joined k a w) (drop from (map f (entries m))))) → Short r l (low + length (layer k w b (drop low amounts)))
-      round_short b lt short =
-          let count = copies_next k w i low (entries r) amounts low_in even first (entries s) (map f (entries m)) c from round.made in
-          short_more r l (length (entries m) + length (ends (λ a. joined k a w) (drop from (map f (entries m))))) (low + length (layer k w b (drop low amounts)))
-          (omega (arith, count, length-map (entries m) f, copies_within k w i low (entries r) amounts low_in even first c b lt))
-          (short_back r s l m (length (entries m) + length (ends (λ a. joined k a w) (drop from (map f (entries m))))) round.kept short)
+        pub round_short : (d : Draft L) (q : Row) → Leads f k (Take x.weight) q from c d None → Short b (low + length (nodes_of f k x low b))
+        round_short d q short =
+            let count = copies_next k (f x.weight) x.number low (entries b.rows) (amounts f b) low_in even opened.first (entries c.rows) (amounts f c) (m - 1) from round.made in
+            let all = length (entries c.loads) + length (ends (λ a. joined k a (f x.weight)) (drop from (amounts f c))) in
+            short_more b all (low + length (nodes_of f k x low b))
+            (omega (
+              arith,
+              count,
+              length-map (entries c.loads) f,
+              copies_within k (f x.weight) x.number low (entries b.rows) (amounts f b) low_in even opened.first (m - 1) x.most (omega (arith, here)),
+            ))
+            (short_back b c all round.kept short)
 
-      pub round_end : (b : ℕ) → c ≡ b → Stations k w i b low (entries r) (entries s) amounts (map f (entries m))
-      round_end b e = copies_end k w i low (entries r) amounts low_in even first (entries s) (map f (entries m)) c from round.made b e
+      pub round_end : m - 1 ≡ x.most → Stations f k x low b c
+      round_end e =
+          let made = copies_end k (f x.weight) x.number low (entries b.rows) (amounts f b) low_in even opened.first (entries c.rows) (amounts f c) (m - 1) from round.made x.most e in
+          record { loads = made.0; rows = made.1 }

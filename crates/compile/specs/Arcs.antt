@@ -1,14 +1,17 @@
 -- The arcs from a run of nodes, led one after the other.
-use Rattle.std.specs.Prelude.{◌≡◌, ℕ, zero, suc, ◌+◌, ◌-◌, false, List, [], ◌∷◌, ◌++◌, map, length, take, drop, Some, None, Option, slice_set}
+use Rattle.std.specs.Prelude.{◌≡◌, ℕ, zero, suc, ◌+◌, ◌-◌, false, List, [], ◌∷◌, ◌++◌, map, length, take, drop, Some, None, Option, slice_index_or, slice_set}
 use Rattle.std.specs.Option.{option_map}
-use Rattle.lists.specs.declared.list.List.{List as Grown}
+use Rattle.limits.specs.Meaning.{Meaning}
 use Rattle.lists.specs.Entries.{entries}
 use Rattle.graph.specs.declared.Row.{Row}
 use Rattle.packing.specs.Distinct.{has, distinct, same_list}
 use Rattle.graph.specs.Graph.{at}
 use Rattle.graph.specs.Compiled.{place}
-use Rattle.compile.specs.Growth.{Short}
+use Rattle.compile.specs.declared.draft.Draft.{Draft}
+use Rattle.compile.specs.declared.step.Step.{Step}
+use Rattle.compile.specs.Drafts.{Short, amounts}
 use Rattle.compile.specs.Nodes.{Noted}
+use Rattle.compile.specs.Steps.{stepped, putting}
 
 -- what an option holds, as a list
 abbrev pub listed : {X : Type 0} → Option X → List X
@@ -55,16 +58,22 @@ abbrev pub Led : (ℕ → Row → Row) → Option (List ℕ) → Row → ℕ →
 Led put None q high n rs qs xs ys = (qs ≡ rs) × (ys ≡ xs)
 Led put (Some x) q high n rs qs xs ys = (ms : List Row) × ((t : ℕ) × (Noted rs ms xs ys high x q t × (qs ≡ slice_set ms n (put t (at ms n)))))
 
--- The arc leads to a node that is not there, and there is no room for it.
-abbrev pub Lacking : {S T : Type 0} → Option (List ℕ) → ℕ → List (List ℕ) → Grown S → Grown T → Type 0
-Lacking None high xs r l = ⊥
-Lacking (Some x) high xs r l = (has same_list x (drop high xs) ≡ false) × Short r l (suc (length xs))
+module _ {L : Type 0} (f : L → List ℕ) where
+  -- The arc leads to a node that is not there, and there is no room for it.
+  abbrev pub Lacking : Option (List ℕ) → ℕ → Draft L → Type 0
+  Lacking None high b = ⊥
+  Lacking (Some x) high b = (has same_list x (drop high (amounts f b)) ≡ false) × Short b (suc (length (entries b.loads)))
 
--- All arcs of the nodes from `low` on have been led; the answer is the node at which their station begins.
--- None if there is no room for the whole station.
-abbrev pub Leads : {L : Type 0} → (L → List ℕ) → (ℕ → Row → Row) → (List ℕ → Option (List ℕ)) → Row → ℕ
-    → Grown Row → Grown Row → Grown L → Grown L → Option ℕ → Type 0
-Leads f put wanted q low r s l m None = Short r l (length (entries l) + length (ends wanted (drop low (map f (entries l)))))
-Leads f put wanted q low r s l m (Some high) =
-    (high ≡ length (entries l))
-    × Linked put wanted q low (entries r) (entries s) (map f (entries l)) (map f (entries m)) (length (entries l) - low)
+  -- The arc of the step from node n has been led. None if there is no room for the node to which it leads.
+  abbrev pub LeadsOne : Meaning → Step L → Row → ℕ → ℕ → Draft L → Draft L → Option (Unit {0}) → Type 0
+  LeadsOne k s q high n b c None = Lacking (stepped f k s (slice_index_or (amounts f b) n [])) high b
+  LeadsOne k s q high n b c (Some _) =
+      Led (putting s) (stepped f k s (slice_index_or (amounts f b) n [])) q high n (entries b.rows) (entries c.rows) (amounts f b) (amounts f c)
+
+  -- All arcs of the step from the nodes from `low` on have been led; the answer is the node at which their station begins.
+  -- None if there is no room for the whole station.
+  abbrev pub Leads : Meaning → Step L → Row → ℕ → Draft L → Draft L → Option ℕ → Type 0
+  Leads k s q low b c None = Short b (length (entries b.loads) + length (ends (stepped f k s) (drop low (amounts f b))))
+  Leads k s q low b c (Some high) =
+      (high ≡ length (entries b.loads))
+      × Linked (putting s) (stepped f k s) q low (entries b.rows) (entries c.rows) (amounts f b) (amounts f c) (length (entries b.loads) - low)

@@ -15,12 +15,6 @@ module _ {T : Type 0} where
     pub room : capacity m ≡ capacity l
     pub memory : SameMemory m l
 
-module _ {S T : Type 0} where
-  -- rows and loads grew together
-  pub record GrewBoth (r q : Grown S) (l m : Grown T) : Type 0 where
-    pub rows : Grew r q
-    pub loads : Grew l m
-
-  -- not both memories hold n entries
-  abbrev pub Short : Grown S → Grown T → ℕ → Type 0
-  Short r l n = n ≤ capacity r → n ≤ capacity l → ⊥
+-- not both memories hold n entries
+abbrev pub ShortOf : {S T : Type 0} → Grown S → Grown T → ℕ → Type 0
+ShortOf r l n = n ≤ capacity r → n ≤ capacity l → ⊥

@@ -1,5 +1,7 @@
 pub mod Growth
+pub mod Drafts
 pub mod Nodes
+pub mod Steps
 pub mod Arcs
 pub mod Items
 pub mod Build

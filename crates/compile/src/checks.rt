@@ -1,6 +1,5 @@
-// The items as they are given: their weights, and what is wrong with them.
+// What is wrong with items as they are given.
 ghost use Rattle.std.specs.Prelude.{◌≡◌};
-ghost use Rattle.std.specs.Option.{option_map};
 ghost use Rattle.packing.specs.Given.{fields_of, order_of, orders_of};
 ghost use Rattle.packing.specs.Problem.{fits_alone, fair, flaw};
 ghost use Rattle.compile.specs.Checks.{verdict};
@@ -9,21 +8,12 @@ use limits::kind::Kind;
 use packing::{Item, MAX_DEMAND, MAX_ITEMS};
 use refusal::Refusal;
 
-// A load of the item's weight, or none if its fields have no weight.
-pub(crate) fn weigh<K: Kind>(kind: &K, item: &Item<'_>) -> Option<K::Load>
-    ensures { option_map K.amount result ≡ (K.meaning kind.now).weight (fields_of item.now) }
-{
-    kind.weigh(item.fields())
-}
-
 // Whether the item has a weight that fits alone.
 fn fits_alone<K: Kind>(kind: &K, item: &Item<'_>) -> bool
     ensures { result ≡ fits_alone (K.meaning kind.now) ((K.meaning kind.now).weight (fields_of item.now)) }
 {
-    match weigh(kind, item) {
-        Some(weight) => kind.put(&kind.empty(), &weight).is_some(),
-        None => false,
-    }
+    kind.weigh(item.fields())
+        .is_some_and(|weight| kind.put(&kind.empty(), &weight).is_some())
 }
 
 // Whether the item's demand is in its range, and its weight fits alone.
@@ -40,10 +30,8 @@ pub fn check_items<K: Kind>(kind: &K, items: &[Item<'_>]) -> Result<(), Refusal>
     if items.is_empty() || items.len() > MAX_ITEMS {
         return Err(Refusal::BadItem { item: 0 });
     }
-    for i in 0..items.len() {
-        if !is_fair(kind, &items[i]) {
-            return Err(Refusal::BadItem { item: i as u32 + 1 });
-        }
+    match items.iter().position(|item| !is_fair(kind, item)) {
+        Some(i) => Err(Refusal::BadItem { item: i as u32 + 1 }),
+        None => Ok(()),
     }
-    Ok(())
 }

@@ -4,8 +4,10 @@
 mod arcs;
 mod build;
 mod checks;
+mod draft;
 mod items;
-mod nodes;
+mod step;
+mod weighed;
 
 pub use build::compile;
 pub use checks::check_items;

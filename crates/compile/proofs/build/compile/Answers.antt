@@ -1,36 +1,16 @@
-use Rattle.std.proofs.Common.{length, sym, ap, ◌∙◌, arith, rules}
+use Rattle.std.proofs.Common.{sym, ◌∙◌, arith, rules}
 use Rattle.compile.specs.Build.{items_of}
-use Rattle.compile.proofs.Orders.{some_item, few_items}
-use Rattle.compile.proofs.Memory.{room_kept, compiles}
+use Rattle.compile.proofs.Orders.{number_of_items}
+use Rattle.compile.proofs.Memory.{compiles}
 use Rattle.compile.proofs.build.compile.Goals as goal
 
-pub build-requires : goal.build-requires
-build-requires g c =
+pub returns-clause-compiles : goal.returns-clause-compiles
+returns-clause-compiles g c =
     let k = g.K.Kind.meaning c.args.kind.now in
-    let empty = c.over-loads.ensures.empty in
-    let free = c.over-loads.ensures.free in
-    record {
-      some = some_item k c.args.items.now c.requires.sound;
-      most = few_items k c.args.items.now c.requires.sound;
-      sound = c.requires.sound;
-      few = omega (arith, ap length empty, ap length free);
-      rows = c.truncate.ensures.entries;
-      loads = empty;
-    }
-
-pub returns : goal.returns
-returns g c =
-    let f = g.K.Kind.amount in
-    let k = g.K.Kind.meaning c.args.kind.now in
-    let items = items_of k c.args.items.now in
-    let before = c.args.rows.now in
-    let kept = c.build.ensures.kept in
-    let same = sym c.over-loads.ensures.lent ∙ sym kept.loads.memory in
-    record {
-      room = room_kept f k items before c.truncate.new.self c.build.new.rows c.over-loads.result c.build.new.loads c.args.memory.now c.args.memory.now
-          c.truncate.ensures.entries c.truncate.ensures.spare c.over-loads.ensures.empty c.over-loads.ensures.free kept;
-      memory = kept.rows.memory ∙ c.truncate.ensures.memory;
-      compiles = compiles f k items before c.truncate.new.self c.build.new.rows c.over-loads.result c.build.new.loads c.args.memory.now _
-          c.truncate.ensures.entries c.truncate.ensures.spare c.over-loads.ensures.empty c.over-loads.ensures.free kept
-          (search rules) c.build.result c.build.ensures.built;
-    }
+    let cut = c.truncate.ensures in
+    let free = c.over-loads.ensures in
+    let built = c.in_ok-build.ensures in
+    let same = sym free.lent ∙ sym built.loads.memory in
+    compiles g.K.Kind.amount k (items_of k c.args.items.now) c.args.rows.now c.truncate.new.self c.build.new.rows c.add_target.new.rows c.over-loads.result c.build.new.loads
+    c.args.memory.now _ cut.entries cut.spare free.empty free.free built.rows built.loads (search rules) built.built c.add_target.ensures.kept
+    _ (omega (arith, number_of_items k c.args.items.now)) c.add_target.result c.add_target.ensures.cases

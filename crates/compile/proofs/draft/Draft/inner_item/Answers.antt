@@ -1,0 +1,9 @@
+use Rattle.compile.proofs.Passes.{followed}
+use Rattle.compile.proofs.draft.Draft.inner_item.Goals as goal
+
+pub returns-clause-cases : goal.returns-clause-cases
+returns-clause-cases g c =
+    let k = g.K.Kind in
+    let made = c.in_ok-stations.ensures in
+    followed k.amount (k.meaning c.args.kind.now) c.args.item.now c.args.low c.args.self.now c.stations.new.self c.requires.within made.cases
+    c.arcs.new.self c.new.result c.arcs.result c.new.ensures made.kept c.arcs.ensures.leads
