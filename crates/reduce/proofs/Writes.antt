@@ -28,11 +28,9 @@ length_written (suc n) numbers g = length-set (written n numbers g) (to numbers 
 -- the rows of the first n nodes were written
 pub record Writing (before after : Grown Row) (numbers : List ℕ) (n : ℕ) : Type 0 where
   pub rows : entries after ≡ written n numbers (entries before)
+  pub long : length (entries after) ≡ length (entries before)
   pub spared : spare after ≡ spare before
   pub memory : SameMemory after before
-
-pub still_long : (before after : Grown Row) (numbers : List ℕ) (n : ℕ) → Writing before after numbers n → length (entries after) ≡ length (entries before)
-still_long before after numbers n w = ap length w.rows ∙ length_written n numbers (entries before)
 
 pub writing_step : (before after next : Grown Row) (numbers : List ℕ) (n : ℕ) (row : Row) (read : List Row) → Writing before after numbers n → n < length numbers
     → read ≡ entries after → row ≡ led (to numbers) (at read n) → entries next ≡ set (entries after) (get_or numbers n 0) row → spare next ≡ spare after
@@ -44,6 +42,7 @@ writing_step before after next numbers n row read w lt read_is row_is entries-ar
       ∙ ap (λ (k : ℕ). set (entries after) k (led (to numbers) (at (entries after) n))) (get_or_default numbers n 0 n lt)
       ∙ ap (λ (l : List Row). set l (to numbers n) (led (to numbers) (at l n))) w.rows
       ∙ sym (written_more n numbers (entries before));
+  long = ap length entries-are ∙ length-set (entries after) (get_or numbers n 0) row ∙ w.long;
   spared = spared ∙ w.spared;
   memory = memory ∙ w.memory;
 }

@@ -4,12 +4,6 @@ use Rattle.graph.specs.Reduced.{classes}
 use Rattle.reduce.proofs.Scans.{class_added}
 use Rattle.reduce.proofs.find_classes.Goals as goal
 
-pub loop-n-init : goal.loop-n-init
-loop-n-init c =
-    let g = c.args.rows.now in
-    let xs = c.args.labels.now in
-    drop_all (length xs) xs (omega arith) ∙ sym (ap (classes (length xs)) (drop_all (length xs) g (omega arith)))
-
 pub loop-n-preserved : goal.loop-n-preserved
 loop-n-preserved c =
     let g = c.args.rows.now in

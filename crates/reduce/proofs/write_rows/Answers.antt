@@ -1,9 +1,6 @@
-use Rattle.std.proofs.Common.{length, ap, arith}
-use Rattle.reduce.proofs.Writes.{still_long, writing_step}
+use Rattle.std.proofs.Common.{length}
+use Rattle.reduce.proofs.Writes.{writing_step}
 use Rattle.reduce.proofs.write_rows.Goals as goal
-
-pub bounds-as_slice-n : goal.bounds-as_slice-n
-bounds-as_slice-n c = omega (arith, ap length c.as_slice.ensures, still_long _ _ _ _ c.loop-n.invariant)
 
 pub loop-n-preserved : goal.loop-n-preserved
 loop-n-preserved c =
