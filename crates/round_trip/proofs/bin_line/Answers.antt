@@ -1,13 +1,11 @@
-use Rattle.std.proofs.Common.{vec_items, ◌∙◌, arith, rules}
-use Rattle.round_trip.proofs.Parts.{more, ended}
+use Rattle.std.proofs.Common.{◌≡◌, length, min, vec_items, ◌∙◌, arith, rules}
+use Rattle.std.proofs.lemmas.Slice.Zip.{zip_end}
+use Rattle.round_trip.proofs.Parts.{ended}
 use Rattle.round_trip.proofs.bin_line.Goals as goal
-
-pub loop-i-preserved : goal.loop-i-preserved
-loop-i-preserved c =
-    more c.args.items.now c.args.counts.now c.loop-i.i _ (vec_items c.loop-i.line) (omega arith) (omega arith) c.in_ok-extend_from_slice.ensures.items
-    c.deref.ensures.value c.in_ok-part.ensures c.loop-i.invariant
 
 pub returns : goal.returns
 returns c =
-    c.in_ok-push.ensures.items ∙ ended c.args.items.now c.args.counts.now c.loop-i.i c.args.times (vec_items c.into_bytes-line.result) (vec_items c.loop-i.line) (omega arith)
-    (search rules) c.loop-i.invariant
+    let all : length c.loop-item.yielded ≡ min (length c.args.items.now) (length c.args.counts.now) =
+    zip_end c.args.items.now c.args.counts.now c.loop-item.yielded c.into_iter-item-iterator.result c.loop-item.item-iterator c.next.new.self c.next.result (search rules) (search rules) c.loop-item.yielded_by c.in-None.is c.next.ensures.steps in
+    c.in_ok-push.ensures.items ∙ ended c.args.items.now c.args.counts.now (length c.loop-item.yielded) c.args.times (vec_items c.into_bytes-line.result) (vec_items c.loop-item.line) (omega arith)
+    (search rules) c.loop-item.invariant
