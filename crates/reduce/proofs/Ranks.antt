@@ -7,7 +7,7 @@ use Rattle.std.proofs.lemmas.List.Edits.{map_over_more}
 use Rattle.std.proofs.lemmas.Bool.{cases_eq, ne_eqb}
 use Rattle.std.proofs.lemmas.Bool.Decides.{Decides-eqb}
 use Rattle.packing.specs.Distinct.{has, index, noted, distinct}
-use Rattle.packing.proofs.Distinct.{has_noted, index_append, index_new, same_self}
+use Rattle.packing.proofs.Distinct.{has_noted, index_append, index_new, or_false, same_self}
 use Rattle.graph.proofs.Steps.{distinct_more, place_found}
 
 -- what the cell of v holds, once the values of ds were seen
@@ -15,33 +15,19 @@ abbrev cell : ℕ → List ℕ → ℕ
 cell v ds = cond (has eqb v ds) (suc (index eqb v ds)) 0
 
 has_self : (x : ℕ) (ds : List ℕ) → has eqb x (noted eqb ds x) ≡ true
-has_self x ds = has_noted eqb x ds x Decides-eqb ∙ rw (same_self eqb Decides-eqb x) (or_true (has eqb x ds))
-  where
-    or_true : (b : Bool) → (b || true) ≡ true
-    or_true true = refl
-    or_true false = refl
+has_self x ds = has_noted eqb x ds x Decides-eqb ∙ rw (same_self eqb Decides-eqb x) (elim (has eqb x ds) as (λ (b : Bool). (b || true) ≡ true) [ true ↦ refl | false ↦ refl ])
 
 -- the cells of other values stay as they are
 cell_other : (v x : ℕ) (ds : List ℕ) → v ≢ x → cell v (noted eqb ds x) ≡ cell v ds
-cell_other v x ds ne = go (has eqb x ds) refl (has eqb v ds) refl
+cell_other v x ds ne = go (has eqb x ds) (has eqb v ds) refl refl
   where
-    still : (b : Bool) → has eqb v ds ≡ b → has eqb v (noted eqb ds x) ≡ b
-    still b h = has_noted eqb v ds x Decides-eqb ∙ rw (h, ne_eqb v x ne) (or_off b)
-      where
-        or_off : (b : Bool) → (b || false) ≡ b
-        or_off true = refl
-        or_off false = refl
+    still : has eqb v (noted eqb ds x) ≡ has eqb v ds
+    still = has_noted eqb v ds x Decides-eqb ∙ rw (ne_eqb v x ne) (or_false (has eqb v ds))
 
-    go : (b : Bool) → has eqb x ds ≡ b → (q : Bool) → has eqb v ds ≡ q → cell v (noted eqb ds x) ≡ cell v ds
-    go true h q e = ap (λ (b : Bool). cell v (cond b ds (ds ++ x ∷ []))) h
-    go false h true e =
-        let grown : noted eqb ds x ≡ ds ++ x ∷ [] = ap (λ (b : Bool). cond b ds (ds ++ x ∷ [])) h in
-        ap (λ (b : Bool). cond b (suc (index eqb v (noted eqb ds x))) 0) (still true e)
-        ∙ ap suc (ap (index eqb v) grown ∙ index_append eqb v ds (x ∷ []) e)
-        ∙ sym (ap (λ (b : Bool). cond b (suc (index eqb v ds)) 0) e)
-    go false h false e =
-        ap (λ (b : Bool). cond b (suc (index eqb v (noted eqb ds x))) 0) (still false e)
-        ∙ sym (ap (λ (b : Bool). cond b (suc (index eqb v ds)) 0) e)
+    go : (b q : Bool) → has eqb x ds ≡ b → has eqb v ds ≡ q → cell v (noted eqb ds x) ≡ cell v ds
+    go true q h e = ap (λ (b : Bool). cell v (cond b ds (ds ++ x ∷ []))) h
+    go false true h e = rw (still, e) (ap suc (ap (λ (b : Bool). index eqb v (cond b ds (ds ++ x ∷ []))) h ∙ index_append eqb v ds (x ∷ []) e))
+    go false false h e = rw (still, e) refl
 
 module _ (e : List ℕ) where
   abbrev seen : ℕ → List ℕ

@@ -1,5 +1,4 @@
-use Rattle.std.proofs.Common.{◌≡◌, ℕ, ◌+◌, ◌-◌, length, drop, sym, ap, ◌∙◌, subst, arith}
-use Rattle.std.proofs.lemmas.List.{drop_all}
+use Rattle.std.proofs.Common.{◌≡◌, ℕ, ◌+◌, ◌-◌, drop, subst, arith}
 use Rattle.graph.specs.Reduced.{classes}
 use Rattle.reduce.proofs.Scans.{class_added}
 use Rattle.reduce.proofs.find_classes.Goals as goal

@@ -1,4 +1,3 @@
-use Rattle.std.proofs.Common.{length}
 use Rattle.reduce.proofs.Writes.{writing_step}
 use Rattle.reduce.proofs.write_rows.Goals as goal
 
