@@ -1,9 +1,23 @@
 -- The items of a line, one after another.
-use Rattle.std.proofs.Common.{◌≡◌, ℕ, ◌<◌, ◌≤◌, min, ◌⊎◌, List, [], ◌∷◌, ◌++◌, length, drop, decimal, sym, refl, ap, ◌∙◌, inl, inr, arith}
-use Rattle.std.proofs.lemmas.List.{append_assoc, append-nil, at_drop_all}
+use Rattle.std.proofs.Common.{◌≡◌, ℕ, ◌+◌, ◌<◌, ◌≤◌, min, ◌⊎◌, List, [], ◌∷◌, ◌++◌, length, get_or, drop, decimal, sym, refl, ap, ◌∙◌, inl, inr, arith}
+use Rattle.std.proofs.lemmas.List.{append_assoc, append-nil, at_drop_all, at_drop_more}
 use Rattle.std.proofs.lemmas.Bool.{cases_lt}
 use Rattle.packing.specs.declared.Item.{Item}
-use Rattle.round_trip.specs.Lines.{line, parts}
+use Rattle.round_trip.specs.Lines.{line, part, parts}
+
+-- a line that has the next item more, and what is left of the items, are what they were
+pub more : (items : List Item) (counts : List ℕ) (i j : ℕ) (item : Item) (count : ℕ) (short longer : List ℕ) (whole : List ℕ)
+    → i < length items → i < length counts → ((d : Item) → item ≡ get_or items i d) → ((d : ℕ) → count ≡ get_or counts i d) → j ≡ i + 1
+    → longer ≡ short ++ part item.name.now count → short ++ parts (drop i items) (drop i counts) ≡ whole
+    → longer ++ parts (drop j items) (drop j counts) ≡ whole
+more items counts i j item count short longer whole a b item_is count_is next grown was =
+    rw (next, grown) (append_assoc short _ _ ∙ sym (ap (λ xs. short ++ xs) parts_more) ∙ was)
+  where
+    parts_more : parts (drop i items) (drop i counts) ≡ part item.name.now count ++ parts (drop (i + 1) items) (drop (i + 1) counts)
+    parts_more =
+        at_drop_more (λ xs. parts xs (drop i counts)) items i item a ∙ at_drop_more (λ cs. parts (get_or items i item ∷ drop (i + 1) items) cs) counts i 0 b
+        ∙ ap (λ (x : Item). part x.name.now (get_or counts i 0) ++ parts (drop (i + 1) items) (drop (i + 1) counts)) (sym (item_is item))
+        ∙ ap (λ (n : ℕ). part item.name.now n ++ parts (drop (i + 1) items) (drop (i + 1) counts)) (sym (count_is 0))
 
 no_counts : (items : List Item) → parts items [] ≡ []
 no_counts [] = refl
