@@ -15,7 +15,9 @@ abbrev cell : ℕ → List ℕ → ℕ
 cell v ds = cond (has eqb v ds) (suc (index eqb v ds)) 0
 
 has_self : (x : ℕ) (ds : List ℕ) → has eqb x (noted eqb ds x) ≡ true
-has_self x ds = has_noted eqb x ds x Decides-eqb ∙ rw (same_self eqb Decides-eqb x) (elim (has eqb x ds) as (λ (b : Bool). (b || true) ≡ true) [ true ↦ refl | false ↦ refl ])
+has_self x ds =
+    has_noted eqb x ds x Decides-eqb
+    ∙ rw (same_self eqb Decides-eqb x) (elim (has eqb x ds) as (λ (b : Bool). (b || true) ≡ true) [ true ↦ refl | false ↦ refl ])
 
 -- the cells of other values stay as they are
 cell_other : (v x : ℕ) (ds : List ℕ) → v ≢ x → cell v (noted eqb ds x) ≡ cell v ds
@@ -43,7 +45,8 @@ module _ (e : List ℕ) where
     pub ranked : values ≡ map rank_of (take i e) ++ drop i e
     pub cells : (v : ℕ) → v < length numbers → get_or numbers v 0 ≡ cell v (seen i)
 
-  module _ (n : ℕ) (room : All (λ v. v < n) e) (values numbers : List ℕ) (count i : ℕ) (r : Ranking values numbers count i) (wide : length numbers ≡ n) (lt : i < length e) where
+  module _ (n : ℕ) (room : All (λ v. v < n) e) (values numbers : List ℕ) (count i : ℕ) (r : Ranking values numbers count i)
+      (wide : length numbers ≡ n) (lt : i < length e) where
     abbrev x : ℕ
     x = get_or values i 0
 
@@ -70,7 +73,8 @@ module _ (e : List ℕ) where
             ap (λ (k : ℕ). get_or (set numbers x number) k 0) same ∙ get_or-set_same numbers x number 0 within ∙ number_is
             ∙ sym (ap (λ (b : Bool). cond b (suc (index eqb x (seen (i + 1)))) 0) has_x) ∙ ap (λ (k : ℕ). cell k (seen (i + 1))) (sym same)
         | inr ne ↦
-            get_or-set_other numbers x v number 0 ne ∙ r.cells v (omega (arith, hv, length-set numbers x number)) ∙ sym (cell_other v x (seen i) ne) ∙ ap (cell v) (sym next)
+            get_or-set_other numbers x v number 0 ne ∙ r.cells v (omega (arith, hv, length-set numbers x number))
+            ∙ sym (cell_other v x (seen i) ne) ∙ ap (cell v) (sym next)
       ];
     }
       where

@@ -46,16 +46,20 @@ pub search_is : (f : ℕ → ℕ) (r : Row) (stays : Row → Bool) (qs : List Ro
     → found f r d (take_while (λ p. stays p.0) (zip qs cs)) ≡ joins f r qs cs d
 search_is f r stays [] cs d never = refl
 search_is f r stays (q ∷ qs) [] d never = refl
-search_is f r stays (q ∷ qs) (c ∷ cs) d never = ap (found f r d) (take_while-cons (λ p. stays p.0) (q, c) (zip qs cs)) ∙ go (search_is f r stays qs cs d (λ j k le lt. never (suc j) (suc k) (omega arith) (omega arith))) (stays q) refl
+search_is f r stays (q ∷ qs) (c ∷ cs) d never =
+    ap (found f r d) (take_while-cons (λ p. stays p.0) (q, c) (zip qs cs))
+    ∙ go (search_is f r stays qs cs d (λ j k le lt. never (suc j) (suc k) (omega arith) (omega arith))) (stays q) refl
   where
     left : List (Row × ℕ)
     left = take_while (λ p. stays p.0) (zip qs cs)
 
-    here : found f r d left ≡ joins f r qs cs d → (b : Bool) → option_map_or (λ p. p.1) (cond b (Some (q, c)) (find (λ p. same_row r (led f p.0)) left)) d ≡ cond b c (joins f r qs cs d)
+    here : found f r d left ≡ joins f r qs cs d → (b : Bool)
+        → option_map_or (λ p. p.1) (cond b (Some (q, c)) (find (λ p. same_row r (led f p.0)) left)) d ≡ cond b c (joins f r qs cs d)
     here more true = refl
     here more false = more
 
-    go : found f r d left ≡ joins f r qs cs d → (b : Bool) → stays q ≡ b → found f r d (cond (stays q) ((q, c) ∷ left) []) ≡ joins f r (q ∷ qs) (c ∷ cs) d
+    go : found f r d left ≡ joins f r qs cs d → (b : Bool) → stays q ≡ b
+        → found f r d (cond (stays q) ((q, c) ∷ left) []) ≡ joins f r (q ∷ qs) (c ∷ cs) d
     go more true h = rw h (here more (same_row r (led f q)))
     go more false h = rw h (sym (joins_none f r (q ∷ qs) (c ∷ cs) d (λ k lt. never 0 k (omega arith) lt h)))
 

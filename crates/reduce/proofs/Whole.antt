@@ -24,14 +24,20 @@ module _ (cells labels rest numbers others : List ℕ) (n : ℕ) (first : cells 
   numbers_clear = All-from_get_or (λ k. k ≡ 0) numbers 0 (λ i lt. let here = clear (n + i) in grind (arith, common_steps))
 
   -- cleared again they are what they were
-  pub cells_left : (again anew : List ℕ) → All (λ k. k ≡ 0) again → All (λ k. k ≡ 0) anew → length again ≡ n → length anew ≡ n → again ++ (anew ++ others) ≡ cells
-  cells_left again anew a b long also = ap (λ xs. xs ++ (anew ++ others)) (same_zeros again labels a labels_clear (long ∙ sym one_each))
+  pub cells_left : (again anew : List ℕ) → All (λ k. k ≡ 0) again → All (λ k. k ≡ 0) anew → length again ≡ n → length anew ≡ n
+      → again ++ (anew ++ others) ≡ cells
+  cells_left again anew a b long also =
+      ap (λ xs. xs ++ (anew ++ others)) (same_zeros again labels a labels_clear (long ∙ sym one_each))
       ∙ ap (λ xs. labels ++ (xs ++ others)) (same_zeros anew numbers b numbers_clear (also ∙ sym two_each))
       ∙ ap (λ xs. labels ++ xs) (sym next) ∙ sym first
 
 module _ (m : ℕ) (g : List Row) (st : Layered m g) where
   pub labels_within : (labels : List ℕ) (n : ℕ) → labels ≡ classes 0 g → n ≡ length g → All (λ v. v < n) labels
-  labels_within labels n is long = All-from_get_or (λ v. v < n) labels 0 (λ i lt. omega (arith, ap (λ (xs : List ℕ). get_or xs i 0) is, class_within m g st i (omega (arith, ap length is, length_classes 0 g)), long))
+  labels_within labels n is long =
+      All-from_get_or (λ v. v < n) labels 0
+      (λ i lt.
+      let in_range : i < length g = omega (arith, ap length is, length_classes 0 g) in
+      omega (arith, ap (λ (xs : List ℕ). get_or xs i 0) is, class_within m g st i in_range, long))
 
   pub rows_left : (labels numbers : List ℕ) (count : ℕ) (rows : List Row) → labels ≡ classes 0 g → numbers ≡ ranks labels → count ≡ length (distinct eqb labels)
       → rows ≡ take count (written (length g) numbers g) → rows ≡ reduced g

@@ -44,7 +44,8 @@ fn find_class(rows: &[Row], labels: &[u32], n: usize) -> u32
         .map_or(n as u32, |(_, class)| *class)
 }
 
-// The class of each node, from the last one back. The nodes go by their index: a class is found by the labels written before it.
+// The class of each node, from the last one back. The nodes go by their index, since a class is found by the labels that
+// were written before it.
 fn find_classes(rows: &[Row], labels: &mut [u32])
     requires { Labelled rows.now labels.old }
     ensures { labels.new ≡ classes 0 rows.now }

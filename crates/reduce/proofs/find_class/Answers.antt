@@ -19,11 +19,14 @@ returns c =
     let n = c.args.n in
     let own : Row = led (to xs) (at g n) in
     let later = zip (drop (n + 1) g) (drop (n + 1) xs) in
+    let rows_rest = c.iter.ensures.rest ∙ take_rest g (n + 1) in
+    let labels_rest = c.zip.ensures.second.0 ∙ take_rest xs (n + 1) in
     let found : option_map (λ p. (p.0.now, p.1.now)) c.find.result ≡ find (λ p. same_row own (led (to xs) p.0)) (take_while (λ p. same_station p.0 own) later) =
     find_from_yields_List (λ p. same_row own (led (to xs) p.0)) _ _ c.find.result c.find.ensures.ran
     (YieldsList-from_take_while _ (λ p. same_station p.0 own)
     (YieldsList-at c.take_while.ensures.source
-    (YieldsList-from_zip (YieldsList-at c.zip.ensures.first (YieldsList-from_slice (drop (n + 1) g) (c.iter.ensures.rest ∙ take_rest g (n + 1)))) (YieldsList-from_slice (drop (n + 1) xs) (c.zip.ensures.second.0 ∙ take_rest xs (n + 1)))))
+    (YieldsList-from_zip (YieldsList-at c.zip.ensures.first (YieldsList-from_slice (drop (n + 1) g) rows_rest))
+    (YieldsList-from_slice (drop (n + 1) xs) labels_rest)))
     c.take_while.ensures.closure c.take_while.ensures.done (λ x b q k. search (rules, tests)))
     (λ x b q k. search (rules, tests)) in
     class_found c.requires.labelled.shaped.0 g c.requires.labelled.shaped.1 xs n _ _ found (search rules)
