@@ -1,6 +1,7 @@
 // Compile and reduce at their edges, under each kind, and the memory around the graph.
-use crate::jobs::{BLANK, boards_and_rails, item};
+use crate::jobs::{BLANK, boards_and_rails, item, told_of};
 use crate::kinds::Missing;
+use graph::Row;
 use job::job::Job;
 use job::state::State;
 use limits::colours::Colours;
@@ -21,26 +22,17 @@ fn with_fields(field_count: usize, field: u32, demand: u32) -> Item<'static> {
     }
 }
 
-// The number of a refusal and the first of its place, if it is one.
-fn refused(answer: Result<usize, Refusal>) -> Option<[usize; 2]> {
-    match answer {
-        Ok(_) => None,
-        Err(refusal) => Some([refusal.numbers().number, refusal.numbers().a]),
+// A node of a graph.
+fn row(item: u32, copies: u32, take: Option<u32>, pass: Option<u32>) -> Row {
+    Row {
+        item,
+        copies,
+        take,
+        pass,
     }
 }
 
-// The rows of the first example: item, copies, take and pass. The last is the target.
-const ROWS: [(u32, u32, Option<u32>, Option<u32>); 8] = [
-    (1, 0, Some(1), Some(2)),
-    (1, 1, None, Some(3)),
-    (2, 0, Some(4), Some(7)),
-    (2, 0, Some(5), Some(7)),
-    (2, 1, Some(6), Some(7)),
-    (2, 1, None, Some(7)),
-    (2, 2, None, Some(7)),
-    (3, 0, None, None),
-];
-
+// The rows of the first example. The last is the target.
 #[test]
 fn rows(rt: HostRuntime) -> Result<(), Fail> {
     let kind = Length::new(5).ok_or(Missing)?;
@@ -49,12 +41,18 @@ fn rows(rt: HostRuntime) -> Result<(), Fail> {
     let mut loads = [77; 8];
     let mut job = Job::new(&mut rows, &mut cells);
     assert_eq!(rt; job.compile(&kind, &boards_and_rails(), &mut loads), Ok(8));
-    for node in 0..8 {
-        let row = job.node_row(node)?;
-        assert_eq!(rt;
-            (row.item, row.copies, row.take, row.pass),
-            ROWS[node as usize]
-        );
+    let expected = [
+        row(1, 0, Some(1), Some(2)),
+        row(1, 1, None, Some(3)),
+        row(2, 0, Some(4), Some(7)),
+        row(2, 0, Some(5), Some(7)),
+        row(2, 1, Some(6), Some(7)),
+        row(2, 1, None, Some(7)),
+        row(2, 2, None, Some(7)),
+        row(3, 0, None, None),
+    ];
+    for (node, expected) in expected.iter().enumerate() {
+        assert_eq!(rt; job.node_row(node as u32), Ok(*expected));
     }
     assert_eq!(rt; loads, [0, 3, 0, 3, 2, 5, 4, 77]);
     assert_eq!(rt; cells, [0; 16]);
@@ -158,12 +156,12 @@ fn wrong_items(rt: HostRuntime) -> Result<(), Fail> {
     let mut job = Job::new(&mut rows, &mut cells);
     job.compile(&kind, &boards_and_rails(), &mut [0; 8])?;
     job.carry(0, 5)?;
-    for case in &WRONG_ITEMS {
+    for (fields, lowest) in &WRONG_ITEMS {
         let mut loads = [77; 8];
-        let [(m, v, b), (n, w, d)] = case.0;
+        let [(m, v, b), (n, w, d)] = *fields;
         let items = [with_fields(m, v, b), with_fields(n, w, d)];
         let answer = job.compile(&kind, &items, &mut loads);
-        assert_eq!(rt; refused(answer), Some([7, case.1]));
+        assert_eq!(rt; answer.map_err(told_of), Err([7, *lowest]));
         assert_eq!(rt; job.arc_flow(0), Ok(5));
         assert_eq!(rt; loads, [77; 8]);
     }
@@ -181,16 +179,17 @@ fn item_counts(rt: HostRuntime) -> Result<(), Fail> {
     let light = [item(0, 1); 65];
     let heavy = [item(2, 1); 65];
     assert_eq!(rt;
-        refused(job.compile(&kind, &light[0..0], &mut loads)),
-        Some([7, 0])
+        job.compile(&kind, &light[0..0], &mut loads)
+            .map_err(told_of),
+        Err([7, 0])
     );
     assert_eq!(rt;
-        refused(job.compile(&kind, &light, &mut loads)),
-        Some([7, 0])
+        job.compile(&kind, &light, &mut loads).map_err(told_of),
+        Err([7, 0])
     );
     assert_eq!(rt;
-        refused(job.compile(&kind, &heavy, &mut loads)),
-        Some([7, 0])
+        job.compile(&kind, &heavy, &mut loads).map_err(told_of),
+        Err([7, 0])
     );
     assert_eq!(rt; job.state(), State::Empty);
     assert_eq!(rt; job.compile(&kind, &light[0..64], &mut loads), Ok(129));
@@ -211,14 +210,14 @@ const ROOMS: [([usize; 3], Option<usize>); 7] = [
 #[test]
 fn rooms(rt: HostRuntime) -> Result<(), Fail> {
     let kind = Length::new(5).ok_or(Missing)?;
-    for room in &ROOMS {
+    for (room, nodes) in &ROOMS {
         let mut rows = [BLANK; 16];
         let mut cells = [0; 32];
         let mut loads = [0; 16];
-        let [r, c, l] = room.0;
+        let [r, c, l] = *room;
         let mut job = Job::new(&mut rows[0..r.min(16)], &mut cells[0..c.min(32)]);
         let answer = job.compile(&kind, &boards_and_rails(), &mut loads[0..l.min(16)]);
-        assert_eq!(rt; answer, room.1.ok_or(Refusal::TooManyNodes));
+        assert_eq!(rt; answer, nodes.ok_or(Refusal::TooManyNodes));
         assert_eq!(rt; job.state() == State::Open, answer.is_ok());
     }
     Ok(())
@@ -233,7 +232,7 @@ fn emptied(rt: HostRuntime) -> Result<(), Fail> {
     let mut job = Job::new(&mut rows, &mut cells);
     job.compile(&kind, &boards_and_rails(), &mut [0; 8])?;
     let answer = job.compile(&kind, &[item(0, 4_095)], &mut [0; 8]);
-    assert_eq!(rt; refused(answer), Some([11, 0]));
+    assert_eq!(rt; answer.map_err(told_of), Err([11, 0]));
     assert_eq!(rt; job.state(), State::Empty);
     assert_eq!(rt; job.arc_flow(0), Err(Refusal::WrongState));
     assert_eq!(rt; job.compile(&kind, &boards_and_rails(), &mut [0; 8]), Ok(8));

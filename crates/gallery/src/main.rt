@@ -5,6 +5,18 @@ use modeller::model_of;
 use std::io::Write;
 use std::{fs, io};
 
+// The files of the instances, in the order in which they are shown.
+const INSTANCES: [&str; 8] = [
+    "boards_and_rails.txt",
+    "shelves.txt",
+    "servers.txt",
+    "inks.txt",
+    "counted_boards.txt",
+    "counted_servers.txt",
+    "counted_inks.txt",
+    "too_heavy.txt",
+];
+
 fn show(rt: &HostRuntime, name: &str) -> io::Result<()> {
     let text = fs::read(rt, name)?;
     let printed = model_of(rt.alloc(), &text)?;
@@ -13,12 +25,8 @@ fn show(rt: &HostRuntime, name: &str) -> io::Result<()> {
 }
 
 fn main(rt: HostRuntime) -> io::Result<()> {
-    show(&rt, "boards_and_rails.txt")?;
-    show(&rt, "shelves.txt")?;
-    show(&rt, "servers.txt")?;
-    show(&rt, "inks.txt")?;
-    show(&rt, "counted_boards.txt")?;
-    show(&rt, "counted_servers.txt")?;
-    show(&rt, "counted_inks.txt")?;
-    show(&rt, "too_heavy.txt")
+    for name in INSTANCES {
+        show(&rt, name)?;
+    }
+    Ok(())
 }

@@ -47,17 +47,6 @@ fn write_model<K: Kind>(
     job.model_text(out)
 }
 
-// Loads of the empty amount.
-fn empty_loads<K: Kind>(heap: Global, kind: &K, n: usize) -> Result<Vec<K::Load>, AllocError>
-    ensures { IfOk result (λ v. vec_len v ≡ n) }
-{
-    let mut loads = Vec::new(heap);
-    for _ in 0..n {
-        loads.push(kind.empty())?;
-    }
-    Ok(loads)
-}
-
 // The bytes of the line that tells of a refusal.
 fn line_of(heap: Global, refusal: Refusal) -> Result<Vec<u8>, AllocError>
     ensures { IfOk result (λ v. v.items ≡ refused_line refusal) }
@@ -86,15 +75,9 @@ fn bytes_of(
 fn model_for<K: Kind>(heap: Global, kind: &K, items: &[Item<'_>]) -> Result<Vec<u8>, AllocError>
     ensures { IfOk result (λ v. v.items ≡ modelled (K.meaning kind.now) (orders_of items.now)) }
 {
-    let blank = Row {
-        item: 0,
-        copies: 0,
-        take: None,
-        pass: None,
-    };
-    let mut rows = vec![in heap; blank; NODES]?;
+    let mut rows = vec![in heap; Row::new(0, 0); NODES]?;
     let mut cells = vec![in heap; 0; CELLS]?;
-    let mut loads = empty_loads(heap, kind, NODES)?;
+    let mut loads = vec![in heap; kind.empty(); NODES]?;
     let mut out = vec![in heap; 0; TEXT]?;
     let answer = write_model(kind, items, &mut rows, &mut cells, &mut loads, &mut out);
     bytes_of(heap, out, answer)
@@ -113,10 +96,7 @@ fn model_under<K: Kind + Drop>(
     let Some(most) = count else {
         return model_for(heap, &kind, items);
     };
-    match Counted::new(most, kind) {
-        Some(counted) => model_for(heap, &counted, items),
-        None => unreachable(),
-    }
+    model_for(heap, &Counted::new(most, kind).unwrap(), items)
 }
 
 // The model text of items under limits, or the line of the refusal.
@@ -127,21 +107,13 @@ fn model_within(heap: Global, limits: Limits, items: &[Item<'_>]) -> Result<Vec<
 {
     let count = limits.count;
     match limits.base {
-        Base::Length(limit) => match Length::new(limit) {
-            Some(kind) => model_under(heap, kind, count, items),
-            None => unreachable(),
-        },
+        Base::Length(limit) => model_under(heap, Length::new(limit).unwrap(), count, items),
         Base::Vector(four) => {
             let [w, x, y, z] = four;
-            match Vector::new(Four { w, x, y, z }) {
-                Some(kind) => model_under(heap, kind, count, items),
-                None => unreachable(),
-            }
+            let kind = Vector::new(Four { w, x, y, z }).unwrap();
+            model_under(heap, kind, count, items)
         }
-        Base::Colours(limit) => match Colours::new(limit) {
-            Some(kind) => model_under(heap, kind, count, items),
-            None => unreachable(),
-        },
+        Base::Colours(limit) => model_under(heap, Colours::new(limit).unwrap(), count, items),
     }
 }
 

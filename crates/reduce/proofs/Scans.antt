@@ -1,14 +1,17 @@
 -- The search for a node's class: from row to row, and where it may stop.
-use Rattle.std.proofs.Common.{◌≡◌, ℕ, suc, ◌+◌, ◌-◌, ◌<◌, ◌≤◌, Bool, true, false, cond, List, [], ◌∷◌, length, get_or, drop, set, sym, refl, ap, ◌∙◌, inl, inr, arith}
-use Rattle.std.proofs.lemmas.List.{drop_more, drop_all, drop-set, get_or-drop, length-drop}
-use Rattle.std.proofs.lemmas.Bool.{cases_lt, eq-eqb}
+use Rattle.std.proofs.Common.{◌≡◌, ℕ, suc, ◌+◌, ◌-◌, ◌<◌, ◌≤◌, Bool, true, false, cond, Some, Option, List, [], ◌∷◌, find, take_while, length, get_or, drop, set, sym, refl, ap, ◌∙◌, inl, inr, arith}
+use Rattle.std.proofs.lemmas.List.{drop-set, get_or-drop, length-drop}
+use Rattle.std.proofs.lemmas.List.Sums.{take_while-cons}
+use Rattle.std.specs.List.{zip}
+use Rattle.std.specs.Option.{option_map_or}
+use Rattle.std.proofs.lemmas.Bool.{cases_lt, eq-eqb, false≢true}
 use Rattle.graph.specs.declared.Row.{Row}
 use Rattle.graph.specs.Graph.{blank, at, Layered}
 use Rattle.graph.specs.Reduced.{led, same_row, class, joins, classed, classes}
 use Rattle.graph.proofs.Joined.{same_row_from, led_same}
 use Rattle.graph.proofs.Reduce.{arcs_ahead}
 use Rattle.graph.proofs.Steps.{classes_more}
-use Rattle.reduce.specs.Reducing.{SameStation, same_ends, to}
+use Rattle.reduce.specs.Reducing.{same_station, node_class, to}
 
 rows_differ : (r q : Row) → (r ≡ q → ⊥) → same_row r q ≡ false
 rows_differ r q ne = go (same_row r q) refl
@@ -33,28 +36,32 @@ joins_same f h r (q ∷ qs) (c ∷ cs) d e =
     ap (λ (p : Row). cond (same_row r p) c (joins f r qs cs d)) (e 0)
     ∙ ap (λ (n : ℕ). cond (same_row r (led h q)) c n) (joins_same f h r qs cs d (λ j. e (suc j)))
 
--- the search from row t on
-abbrev pub search_from : (ℕ → ℕ) → Row → List Row → List ℕ → ℕ → ℕ → ℕ
-search_from f r g cs d t = joins f r (drop t g) (drop t cs) d
+-- the label of the first pair whose row equals r, once its arcs lead to classes
+abbrev pub found : (ℕ → ℕ) → Row → ℕ → List (Row × ℕ) → ℕ
+found f r d ps = option_map_or (λ p. p.1) (find (λ p. same_row r (led f p.0)) ps) d
 
-module _ (f : ℕ → ℕ) (r : Row) (g : List Row) (cs : List ℕ) (d t : ℕ) where
-  here : t < length g → length cs ≡ length g → search_from f r g cs d t ≡ cond (same_row r (led f (at g t))) (get_or cs t 0) (search_from f r g cs d (t + 1))
-  here lt long =
-      ap (λ (qs : List Row). joins f r qs (drop t cs) d) (drop_more g t blank lt)
-      ∙ ap (λ (l : List ℕ). joins f r (at g t ∷ drop (t + 1) g) l d) (drop_more cs t 0 (omega (arith, long)))
+-- the search may stop at a row that does not stay, if no row from there on equals r
+pub search_is : (f : ℕ → ℕ) (r : Row) (stays : Row → Bool) (qs : List Row) (cs : List ℕ) (d : ℕ)
+    → ((j k : ℕ) → j ≤ k → k < length qs → stays (get_or qs j blank) ≡ false → r ≡ led f (get_or qs k blank) → ⊥)
+    → found f r d (take_while (λ p. stays p.0) (zip qs cs)) ≡ joins f r qs cs d
+search_is f r stays [] cs d never = refl
+search_is f r stays (q ∷ qs) [] d never = refl
+search_is f r stays (q ∷ qs) (c ∷ cs) d never =
+    ap (found f r d) (take_while-cons (λ p. stays p.0) (q, c) (zip qs cs))
+    ∙ go (search_is f r stays qs cs d (λ j k le lt. never (suc j) (suc k) (omega arith) (omega arith))) (stays q) refl
+  where
+    left : List (Row × ℕ)
+    left = take_while (λ p. stays p.0) (zip qs cs)
 
-  pub search_hit : t < length g → length cs ≡ length g → same_row r (led f (at g t)) ≡ true → search_from f r g cs d t ≡ get_or cs t 0
-  search_hit lt long h = here lt long ∙ ap (λ (b : Bool). cond b (get_or cs t 0) (search_from f r g cs d (t + 1))) h
+    here : found f r d left ≡ joins f r qs cs d → (b : Bool)
+        → option_map_or (λ p. p.1) (cond b (Some (q, c)) (find (λ p. same_row r (led f p.0)) left)) d ≡ cond b c (joins f r qs cs d)
+    here more true = refl
+    here more false = more
 
-  pub search_miss : t < length g → length cs ≡ length g → same_row r (led f (at g t)) ≡ false → search_from f r g cs d t ≡ search_from f r g cs d (t + 1)
-  search_miss lt long h = here lt long ∙ ap (λ (b : Bool). cond b (get_or cs t 0) (search_from f r g cs d (t + 1))) h
-
-  pub search_end : length g ≤ t → search_from f r g cs d t ≡ d
-  search_end le = ap (λ (qs : List Row). joins f r qs (drop t cs) d) (drop_all t g le)
-
--- rows of one station are equal if their arcs lead to the same nodes
-pub ends_tell : (r q : Row) (b : Bool) → SameStation r q → b ≡ same_ends r q → same_row r q ≡ b
-ends_tell r q b (item, copies) is = rw (eq-eqb r.item q.item item, eq-eqb r.copies q.copies copies) (sym is)
+    go : found f r d left ≡ joins f r qs cs d → (b : Bool) → stays q ≡ b
+        → found f r d (cond (stays q) ((q, c) ∷ left) []) ≡ joins f r (q ∷ qs) (c ∷ cs) d
+    go more true h = rw h (here more (same_row r (led f q)))
+    go more false h = rw h (sym (joins_none f r (q ∷ qs) (c ∷ cs) d (λ k lt. never 0 k (omega arith) lt h)))
 
 module _ (m : ℕ) (g : List Row) (st : Layered m g) where
   items_rise : (u v : ℕ) → u ≤ v → v < length g → (at g u).item ≤ (at g v).item
@@ -70,24 +77,31 @@ module _ (m : ℕ) (g : List Row) (st : Layered m g) where
   ]
 
   -- a station lies between two nodes of another one
-  station_kept : (n t v : ℕ) → n ≤ t → t ≤ v → v < length g → SameStation (at g n) (at g v) → SameStation (at g n) (at g t)
-  station_kept n t v nt tv lt (item, copies) =
+  station_kept : (n t v : ℕ) → n ≤ t → t ≤ v → v < length g → (at g n).item ≡ (at g v).item → (at g n).copies ≡ (at g v).copies
+      → ((at g n).item ≡ (at g t).item) × ((at g n).copies ≡ (at g t).copies)
+  station_kept n t v nt tv lt item copies =
       let same : (at g n).item ≡ (at g t).item = omega (arith, items_rise n t nt (omega arith), items_rise t v tv lt) in (
         same,
         omega (arith, copies_rise n t nt (omega arith) same, copies_rise t v tv lt (sym same ∙ item)),
       )
 
-  -- no row from the first one of another station on is of the station of node n
-  pub search_stop : (f : ℕ → ℕ) (cs : List ℕ) (d n t : ℕ) → n < t → (SameStation (at g n) (at g t) → ⊥)
-      → search_from f (led f (at g n)) g cs d t ≡ d
-  search_stop f cs d n t lt other = joins_none f (led f (at g n)) (drop t g) (drop t cs) d never
-    where
-      never : (j : ℕ) → j < length (drop t g) → led f (at g n) ≡ led f (get_or (drop t g) j blank) → ⊥
-      never j hj e =
-          let place = get_or-drop t g j blank in
-          let item = ap (λ (r : Row). r.item) e ∙ ap (λ (r : Row). r.item) place in
-          let copies = ap (λ (r : Row). r.copies) e ∙ ap (λ (r : Row). r.copies) place in
-          other (station_kept n t (t + j) (omega arith) (omega arith) (omega (arith, hj, length-drop t g)) (item, copies))
+  -- no row from the first one of another station on equals that of node n
+  never : (f : ℕ → ℕ) (n : ℕ) (j k : ℕ) → j ≤ k → k < length (drop (n + 1) g) → same_station (get_or (drop (n + 1) g) j blank) (at g n) ≡ false
+      → led f (at g n) ≡ led f (get_or (drop (n + 1) g) k blank) → ⊥
+  never f n j k le hk other e =
+      let kept : (at g (n + 1 + k)) ≡ get_or (drop (n + 1) g) k blank = sym (get_or-drop (n + 1) g k blank) in
+      let item : (at g n).item ≡ (at g (n + 1 + k)).item = ap (λ (r : Row). r.item) (e ∙ ap (led f) (sym kept)) in
+      let copies : (at g n).copies ≡ (at g (n + 1 + k)).copies = ap (λ (r : Row). r.copies) (e ∙ ap (led f) (sym kept)) in
+      let same = station_kept n (n + 1 + j) (n + 1 + k) (omega arith) (omega arith) (omega (arith, hk, length-drop (n + 1) g)) item copies in
+      false≢true (sym other ∙ ap (λ (r : Row). same_station r (at g n)) (get_or-drop (n + 1) g j blank) ∙ rw (eq-eqb _ _ (sym same.0), eq-eqb _ _ (sym same.1)) refl)
+
+  -- so the class of node n is that of the first pair that the search finds
+  pub class_found : (xs : List ℕ) (n c : ℕ) (o : Option (Row × ℕ))
+      → o ≡ find (λ p. same_row (led (to xs) (at g n)) (led (to xs) p.0)) (take_while (λ p. same_station p.0 (at g n)) (zip (drop (n + 1) g) (drop (n + 1) xs)))
+      → c ≡ option_map_or (λ p. p.1) o n → c ≡ node_class xs g n
+  class_found xs n c o o_is c_is =
+      c_is ∙ ap (λ (p : Option (Row × ℕ)). option_map_or (λ q. q.1) p n) o_is
+      ∙ search_is (to xs) (led (to xs) (at g n)) (λ q. same_station q (at g n)) (drop (n + 1) g) (drop (n + 1) xs) n (never (to xs) n)
 
   class_to : (xs : List ℕ) (n t : ℕ) → n < t → to xs t ≡ class (suc n) (drop (n + 1) xs) t
   class_to xs n t lt =
@@ -102,7 +116,7 @@ module _ (m : ℕ) (g : List Row) (st : Layered m g) where
 
   -- one node more, from the last one back
   pub class_added : (xs : List ℕ) (n c : ℕ) → n < length g → length xs ≡ length g → drop (n + 1) xs ≡ classes (n + 1) (drop (n + 1) g)
-      → c ≡ search_from (to xs) (led (to xs) (at g n)) g xs n (n + 1) → drop n (set xs n c) ≡ classes n (drop n g)
+      → c ≡ node_class xs g n → drop n (set xs n c) ≡ classes n (drop n g)
   class_added xs n c lt long known is =
       let cs = drop (n + 1) xs in
       let f = class (suc n) cs in

@@ -1,5 +1,5 @@
 -- Rows written at their new numbers.
-use Rattle.std.proofs.Common.{◌≡◌, ℕ, zero, suc, ◌+◌, ◌-◌, ◌<◌, ◌≤◌, true, eqb, ◌≢◌, List, [], ◌∷◌, length, get_or, take, set, sym, refl, ap, ◌∙◌, subst, inl, inr, arith, length-set}
+use Rattle.std.proofs.Common.{◌≡◌, ℕ, zero, suc, ◌+◌, ◌-◌, ◌<◌, ◌≤◌, Bool, true, false, cond, eqb, ◌≢◌, List, [], ◌∷◌, ◌++◌, length, get_or, take, set, sym, refl, ap, ◌∙◌, subst, inl, inr, arith, length-set, length-append}
 use lib.ListN.{length-map}
 use Rattle.std.proofs.lemmas.List.{ext_get_or, get_or-map, get_or-take, get_or-set_same, get_or-set_other, get_or_default, length-take-le}
 use Rattle.std.proofs.lemmas.Bool.{cases_eq, cases_lt}
@@ -16,7 +16,6 @@ use Rattle.graph.proofs.Joined.{led_same, all_joined, length_classes}
 use Rattle.graph.proofs.Reduce.{arcs_ahead, reduced_joins}
 use Rattle.graph.proofs.Steps.{place_found}
 use Rattle.reduce.specs.Reducing.{to, ranks, written}
-use Rattle.reduce.proofs.Ranks.{length_noted_le}
 
 pub written_more : (n : ℕ) (numbers : List ℕ) (g : List Row)
     → written (n + 1) numbers g ≡ set (written n numbers g) (to numbers n) (led (to numbers) (at (written n numbers g) n))
@@ -29,22 +28,31 @@ length_written (suc n) numbers g = length-set (written n numbers g) (to numbers 
 -- the rows of the first n nodes were written
 pub record Writing (before after : Grown Row) (numbers : List ℕ) (n : ℕ) : Type 0 where
   pub rows : entries after ≡ written n numbers (entries before)
+  pub long : length (entries after) ≡ length (entries before)
   pub spared : spare after ≡ spare before
   pub memory : SameMemory after before
 
-pub writing_step : (before after next : Grown Row) (numbers : List ℕ) (n place : ℕ) (row own : Row) → Writing before after numbers n
-    → own ≡ at (entries after) n → row ≡ led (to numbers) own → place ≡ to numbers n
-    → entries next ≡ set (entries after) place row → spare next ≡ spare after → SameMemory next after → Writing before next numbers (n + 1)
-writing_step before after next numbers n place row own w own_is row_is place_is entries-are spared memory = record {
+pub writing_step : (before after next : Grown Row) (numbers : List ℕ) (n : ℕ) (row : Row) (read : List Row) → Writing before after numbers n → n < length numbers
+    → read ≡ entries after → row ≡ led (to numbers) (at read n) → entries next ≡ set (entries after) (get_or numbers n 0) row → spare next ≡ spare after
+    → SameMemory next after → Writing before next numbers (n + 1)
+writing_step before after next numbers n row read w lt read_is row_is entries-are spared memory = record {
   rows =
       entries-are
-      ∙ ap (λ (k : ℕ). set (entries after) k row) place_is
-      ∙ ap (set (entries after) (to numbers n)) (row_is ∙ ap (led (to numbers)) own_is)
+      ∙ ap (set (entries after) (get_or numbers n 0)) (row_is ∙ ap (λ (l : List Row). led (to numbers) (at l n)) read_is)
+      ∙ ap (λ (k : ℕ). set (entries after) k (led (to numbers) (at (entries after) n))) (get_or_default numbers n 0 n lt)
       ∙ ap (λ (l : List Row). set l (to numbers n) (led (to numbers) (at l n))) w.rows
       ∙ sym (written_more n numbers (entries before));
+  long = ap length entries-are ∙ length-set (entries after) (get_or numbers n 0) row ∙ w.long;
   spared = spared ∙ w.spared;
   memory = memory ∙ w.memory;
 }
+
+length_noted_le : (x : ℕ) (ds : List ℕ) → length (noted eqb ds x) ≤ suc (length ds)
+length_noted_le x ds = go (has eqb x ds)
+  where
+    go : (b : Bool) → length (cond b ds (ds ++ x ∷ [])) ≤ suc (length ds)
+    go true = omega arith
+    go false = omega (arith, length-append ds (x ∷ []))
 
 length_noted_all_le : (seen xs : List ℕ) → length (noted_all eqb seen xs) ≤ length seen + length xs
 length_noted_all_le seen [] = omega arith

@@ -1,21 +1,23 @@
 -- What the steps of a reduction in place leave.
-use Rattle.std.specs.Prelude.{◌≡◌, ℕ, zero, suc, ◌+◌, Bool, ◌&&◌, List, map, drop, nat_eq, slice_index_or, slice_set}
+use Rattle.std.specs.Prelude.{◌≡◌, ℕ, zero, suc, ◌+◌, ◌≤◌, Bool, ◌==◌, ◌&&◌, List, length, map, drop, nat_eq, slice_index_or, slice_set}
 use Rattle.graph.specs.declared.Row.{Row}
 use Rattle.packing.specs.Distinct.{distinct, index}
 use Rattle.graph.specs.Graph.{at, Layered}
-use Rattle.graph.specs.Reduced.{joins, led, same_end}
+use Rattle.graph.specs.Reduced.{joins, led}
 
 -- a graph for some number of items
 abbrev pub Shaped : List Row → Type 0
 Shaped g = (m : ℕ) × Layered m g
 
--- the rows are of nodes of one station
-abbrev pub SameStation : Row → Row → Type 0
-SameStation r q = (r.item ≡ q.item) × (r.copies ≡ q.copies)
+-- a graph with a label for each node
+pub record Labelled (g : List Row) (labels : List ℕ) : Type 0 where
+  pub shaped : Shaped g
+  pub few : length g ≤ 65535
+  pub one_each : length labels ≡ length g
 
--- whether the arcs of two rows lead to the same nodes
-abbrev pub same_ends : Row → Row → Bool
-same_ends r q = same_end r.take q.take && same_end r.pass q.pass
+-- whether two rows are of nodes of one station
+abbrev pub same_station : Row → Row → Bool
+same_station r q = r.item == q.item && r.copies == q.copies
 
 -- the entry at t; past the end, t itself
 abbrev pub to : List ℕ → ℕ → ℕ
@@ -24,11 +26,6 @@ to xs t = slice_index_or xs t t
 -- the class of node n, by the labels of the later nodes, which are their classes
 abbrev pub node_class : List ℕ → List Row → ℕ → ℕ
 node_class labels g n = joins (to labels) (led (to labels) (at g n)) (drop (n + 1) g) (drop (n + 1) labels) n
-
--- what the cell of a value holds once the value is seen, 1 more than its rank: a value that is new comes after `count` others
-abbrev pub marked : ℕ → ℕ → ℕ
-marked count zero = suc count
-marked count (suc rank) = suc rank
 
 -- each value by its place among the distinct values, in the order of first appearance
 abbrev pub ranks : List ℕ → List ℕ

@@ -5,17 +5,19 @@ use Rattle.std.proofs.lemmas.Bool.{cases_lt}
 use Rattle.packing.specs.declared.Item.{Item}
 use Rattle.round_trip.specs.Lines.{line, part, parts}
 
--- the next item with its count
-pub parts_more : (items : List Item) (counts : List ℕ) (i : ℕ) (d : Item) → i < length items → i < length counts → parts (drop i items) (drop i counts) ≡ part (get_or items i d).name.now (get_or counts i 0) ++ parts (drop (i + 1) items) (drop (i + 1) counts)
-parts_more items counts i d a b =
-    at_drop_more (λ xs. parts xs (drop i counts)) items i d a ∙ at_drop_more (λ cs. parts (get_or items i d ∷ drop (i + 1) items) cs) counts i 0 b
-
 -- a line that has the next item more, and what is left of the items, are what they were
-pub more : (items : List Item) (counts : List ℕ) (i : ℕ) (d : Item) (short : List ℕ) {longer slice bytes whole : List ℕ} → i < length items → i < length counts
-    → longer ≡ short ++ slice → slice ≡ bytes → bytes ≡ part (get_or items i d).name.now (get_or counts i 0)
-    → short ++ parts (drop i items) (drop i counts) ≡ whole → longer ++ parts (drop (i + 1) items) (drop (i + 1) counts) ≡ whole
-more items counts i d short a b grown same is was =
-    ap (λ xs. xs ++ parts (drop (i + 1) items) (drop (i + 1) counts)) (grown ∙ ap (λ xs. short ++ xs) (same ∙ is)) ∙ append_assoc short _ _ ∙ sym (ap (λ xs. short ++ xs) (parts_more items counts i d a b)) ∙ was
+pub more : (items : List Item) (counts : List ℕ) (i j : ℕ) (item : Item) (count : ℕ) (short longer : List ℕ) (whole : List ℕ)
+    → i < length items → i < length counts → ((d : Item) → item ≡ get_or items i d) → ((d : ℕ) → count ≡ get_or counts i d) → j ≡ i + 1
+    → longer ≡ short ++ part item.name.now count → short ++ parts (drop i items) (drop i counts) ≡ whole
+    → longer ++ parts (drop j items) (drop j counts) ≡ whole
+more items counts i j item count short longer whole a b item_is count_is next grown was =
+    rw (next, grown) (append_assoc short _ _ ∙ sym (ap (λ xs. short ++ xs) parts_more) ∙ was)
+  where
+    parts_more : parts (drop i items) (drop i counts) ≡ part item.name.now count ++ parts (drop (i + 1) items) (drop (i + 1) counts)
+    parts_more =
+        at_drop_more (λ xs. parts xs (drop i counts)) items i item a ∙ at_drop_more (λ cs. parts (get_or items i item ∷ drop (i + 1) items) cs) counts i 0 b
+        ∙ ap (λ (x : Item). part x.name.now (get_or counts i 0) ++ parts (drop (i + 1) items) (drop (i + 1) counts)) (sym (item_is item))
+        ∙ ap (λ (n : ℕ). part item.name.now n ++ parts (drop (i + 1) items) (drop (i + 1) counts)) (sym (count_is 0))
 
 no_counts : (items : List Item) → parts items [] ≡ []
 no_counts [] = refl

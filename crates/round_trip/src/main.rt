@@ -28,13 +28,6 @@ const NODES: usize = 512;
 // Two cells for each node.
 const CELLS: usize = 1_024;
 
-const BLANK: Row = Row {
-    item: 0,
-    copies: 0,
-    take: None,
-    pass: None,
-};
-
 // An item of one field.
 fn make_item(name: &[u8], field: u32, demand: u32) -> Item<'_>
     ensures { result ≡ record { name = name.entry; line = 0; values = field ∷ 0 ∷ 0 ∷ 0 ∷ []; field_count = 1; demand = demand } }
@@ -65,6 +58,7 @@ fn pack_boards(
 }
 
 // Packs inks into bins of one colour by the flow of each arc: two bins with a red one, and a bin with a blue one.
+// It makes other calls than `pack_boards`, so one function for both kinds would only pass the calls.
 fn pack_inks(
     job: &mut Job<'_>,
     kind: &Colours,
@@ -107,8 +101,8 @@ fn bin_line(
     ensures { IfOk result (λ v. v.items ≡ line times items.now counts.now) }
 {
     let mut line = format!(in heap; "{times}")?.into_bytes();
-    for i in 0..items.len().min(counts.len()) {
-        let part = part_of(heap, items[i].name, counts[i])?;
+    for (item, count) in items.iter().zip(counts) {
+        let part = part_of(heap, item.name, *count)?;
         line.extend_from_slice(&part)?;
     }
     line.push(b'\n')?;
@@ -116,7 +110,7 @@ fn bin_line(
 }
 
 // Hands out the bins until the job refuses, and prints a line for each. Each takes at least 1 off the value, which is `most`
-// at first.
+// at first; a loop of so many turns needs no proof that it ends, which `while let` would.
 fn print_bins(rt: HostRuntime, job: &mut Job<'_>, items: &[Item<'_>], most: u32) -> io::Result<()> {
     for _ in 0..=most {
         let mut counts = [0; 2];
@@ -152,7 +146,7 @@ fn print_packing(
 
 fn main(rt: HostRuntime) -> io::Result<()> {
     let heap = rt.alloc();
-    let mut rows = vec![in heap; BLANK; NODES]?;
+    let mut rows = vec![in heap; Row::new(0, 0); NODES]?;
     let mut cells = vec![in heap; 0; CELLS]?;
     let mut job = Job::new(&mut rows, &mut cells);
 

@@ -1,45 +1,32 @@
-use Rattle.std.proofs.Common.{sym, ◌∙◌, arith}
-use Rattle.std.proofs.lemmas.Bool.{false≢true}
-use Rattle.lists.specs.Entries.{entries}
+use Rattle.std.proofs.Common.{◌≡◌, ◌+◌, drop, take_while, ◌∙◌, rules, tests}
+use Rattle.std.proofs.lemmas.List.{take_rest}
+use Rattle.std.specs.Option.{option_map}
+use Rattle.std.specs.List.{find, zip}
+use Rattle.std.proofs.lemmas.Iterator.{YieldsList-from_slice, YieldsList-from_zip}
+use Rattle.std.proofs.lemmas.Iterator.Consumers.{YieldsList-at}
+use Rattle.std.proofs.lemmas.Iterator.Search.{YieldsList-from_take_while, find_from_yields_List}
+use Rattle.graph.specs.declared.Row.{Row}
 use Rattle.graph.specs.Graph.{at}
-use Rattle.graph.specs.Reduced.{led}
-use Rattle.reduce.specs.Reducing.{to}
-use Rattle.reduce.proofs.Scans.{search_hit, search_miss, search_end, search_stop, ends_tell}
+use Rattle.graph.specs.Reduced.{led, same_row}
+use Rattle.reduce.specs.Reducing.{same_station, to}
+use Rattle.reduce.proofs.Scans.{class_found}
 use Rattle.reduce.proofs.find_class.Goals as goal
-
-pub returns-then-not-same_station : goal.returns-then-not-same_station
-returns-then-not-same_station c =
-    let g = entries c.args.rows.now in
-    let xs = c.args.labels.now in
-    let n = c.args.n in
-    let t = c.loop-t.t in
-    sym (c.loop-t.invariant
-    ∙ search_stop c.requires.shaped.0 g c.requires.shaped.1 (to xs) xs n n t (omega (arith, c.loop-t.auto.t))
-    (λ same. false≢true (sym c.if-not-same_station.true ∙ c.same_station.ensures.1 same)))
-
-pub returns-then-same_ends : goal.returns-then-same_ends
-returns-then-same_ends c =
-    let g = entries c.args.rows.now in
-    let xs = c.args.labels.now in
-    let n = c.args.n in
-    let t = c.loop-t.t in
-    let r = led (to xs) (at g n) in
-    let equal = ends_tell r (led (to xs) (at g t)) _ (c.same_station.ensures.0 c.if-not-same_station.false) c.same_ends.ensures ∙ c.if-same_ends.true in
-    sym (c.loop-t.invariant ∙ search_hit (to xs) r g xs n t (omega (arith, c.requires.long, c.loop-t-test.true)) c.requires.long equal)
-
-pub loop-t-preserved : goal.loop-t-preserved
-loop-t-preserved c =
-    let g = entries c.args.rows.now in
-    let xs = c.args.labels.now in
-    let n = c.args.n in
-    let t = c.loop-t.t in
-    let r = led (to xs) (at g n) in
-    let unequal = ends_tell r (led (to xs) (at g t)) _ (c.same_station.ensures.0 c.if-not-same_station.false) c.same_ends.ensures ∙ c.if-same_ends.false in
-    c.loop-t.invariant ∙ search_miss (to xs) r g xs n t (omega (arith, c.requires.long, c.loop-t-test.true)) c.requires.long unequal
 
 pub returns : goal.returns
 returns c =
-    let g = entries c.args.rows.now in
     let xs = c.args.labels.now in
+    let g = c.args.rows.now in
     let n = c.args.n in
-    sym (c.loop-t.invariant ∙ search_end (to xs) (led (to xs) (at g n)) g xs n c.loop-t.t (omega (arith, c.requires.long, c.loop-t-test.false)))
+    let own : Row = led (to xs) (at g n) in
+    let later = zip (drop (n + 1) g) (drop (n + 1) xs) in
+    let rows_rest = c.iter.ensures.rest ∙ take_rest g (n + 1) in
+    let labels_rest = c.zip.ensures.second.0 ∙ take_rest xs (n + 1) in
+    let found : option_map (λ p. (p.0.now, p.1.now)) c.find.result ≡ find (λ p. same_row own (led (to xs) p.0)) (take_while (λ p. same_station p.0 own) later) =
+    find_from_yields_List (λ p. same_row own (led (to xs) p.0)) _ _ c.find.result c.find.ensures.ran
+    (YieldsList-from_take_while _ (λ p. same_station p.0 own)
+    (YieldsList-at c.take_while.ensures.source
+    (YieldsList-from_zip (YieldsList-at c.zip.ensures.first (YieldsList-from_slice (drop (n + 1) g) rows_rest))
+    (YieldsList-from_slice (drop (n + 1) xs) labels_rest)))
+    c.take_while.ensures.closure c.take_while.ensures.done (λ x b q k. search (rules, tests)))
+    (λ x b q k. search (rules, tests)) in
+    class_found c.requires.labelled.shaped.0 g c.requires.labelled.shaped.1 xs n _ _ found (search rules)

@@ -1,16 +1,15 @@
-use Rattle.std.proofs.Common.{◌≡◌, ℕ, subst, arith}
-use Rattle.reduce.proofs.Ranks.{Ranking, ranking_step, ranking_end}
+use Rattle.reduce.proofs.Ranks.{ranking_again, ranking_new}
+use Rattle.reduce.proofs.rank.Goals.{then-number-eq0, else-number-eq0}
 use Rattle.reduce.proofs.rank.Goals as goal
 
-pub loop-i-preserved : goal.loop-i-preserved
-loop-i-preserved c =
-    ranking_step c.args.n c.args.cells.now c.requires.room c.requires.within c.loop-i.cells _ c.loop-i.count c.loop-i.i c.rank_value-number.result _
-    c.loop-i.invariant c.loop-i-test.true c.rank_value-number.ensures.value c.rank_value-number.ensures.cells c.max-count.ensures
-
-pub returns : goal.returns
-returns c =
-    let n = c.args.n in
-    let all : c.loop-i.i ≡ n = omega (arith, c.loop-i-test.false) in
-    let inv = subst (λ (i : ℕ). Ranking n c.args.cells.now c.loop-i.cells c.loop-i.count i) all c.loop-i.invariant in
-    let end = ranking_end n c.args.cells.now c.requires.room c.requires.within c.loop-i.cells c.loop-i.count inv in
-    record { ranks = end.0; rest = inv.rest; count = end.1 }
+pub loop-value-preserved : goal.loop-value-preserved
+loop-value-preserved c =
+    let s = c.loop-value in
+    elim c.if-number-eq0.branch [
+      | then-number-eq0 w ↦
+          rw (w.number-is, w.count-is)
+          (ranking_new c.args.values.now _ c.requires.within s.values s.numbers s.count s.value-index s.invariant s.auto.numbers c.loop-value-test.true w.if-number-eq0.true)
+      | else-number-eq0 w ↦
+          rw (w.number-is, w.count-is)
+          (ranking_again c.args.values.now _ c.requires.within s.values s.numbers s.count s.value-index s.invariant s.auto.numbers c.loop-value-test.true w.if-number-eq0.false)
+    ]
