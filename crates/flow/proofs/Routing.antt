@@ -1,5 +1,5 @@
 -- The steps of the walk along a path that spells some counts.
-use Rattle.std.proofs.Common.{◌≡◌, ℕ, zero, suc, ◌+◌, ◌-◌, ◌*◌, ◌/◌, ◌<◌, ◌≤◌, Bool, true, false, cond, ◌||◌, ltb, leb, ◌≢◌, ◌⊎◌, List, [], ◌∷◌, length, get_or, drop, set, Some, None, Ok, Err, Option, sym, refl, ap, ◌∙◌, inl, inr, ⊎_elim, add-one, arith, length-set}
+use Rattle.std.proofs.Common.{◌≡◌, ℕ, zero, suc, ◌+◌, ◌-◌, ◌*◌, ◌/◌, ◌<◌, ◌≤◌, Bool, true, false, cond, ◌||◌, ltb, leb, ◌≢◌, ◌⊎◌, List, [], ◌∷◌, length, get_or, drop, set, Some, None, Ok, Err, Option, Result, sym, refl, ap, ◌∙◌, inl, inr, ⊎_elim, add-one, arith, length-set}
 use Rattle.std.specs.Option.{option_map}
 use Rattle.std.proofs.lemmas.List.{get_or-set_same, get_or-set_other, set_past, drop_more, drop_all, get_or_past}
 use Rattle.std.proofs.lemmas.Bool.{cases_Bool, cases_eq, cases_lt, cond-true, cond-false, ltb-true, ltb-false, lt-ltb, le-ltb, le-leb, lt-leb, eq-eqb, or_parts}
@@ -13,6 +13,7 @@ use Rattle.flow.specs.Flow.{on, push}
 use Rattle.flow.specs.Job.{limit, Content, View.Open, overflows, place_on, refuse}
 use Rattle.flow.specs.Walks.{choice, verdict, arcs_along}
 use Rattle.flow.proofs.Shape.{Forward}
+use Rattle.flow.proofs.Inflow.{upward}
 use Rattle.flow.proofs.Linear.{Rising}
 use Rattle.flow.proofs.Paths.{head_pass, head_take}
 
@@ -126,54 +127,72 @@ module _ (g : List Row) (counts : List ℕ) (s : Forward (length counts) g) wher
             let arc : (at g n).pass ≡ Some k = sym (head_pass g n) ∙ ap (head g) (sym is) ∙ leads in
             ((s.pass_to n k arc).0, (s.pass_to n k arc).1, omega arith)
 
+-- the arc by which the path leaves a node is that node's
+pub tail_choice : (g : List Row) (counts : List ℕ) (n a : ℕ) → a ≡ choice g counts n → a / 2 ≡ n
+tail_choice g counts n a e = go (cases_Bool (ltb (at g n).copies (entry counts (at g n).item)))
+  where
+    go : (ltb (at g n).copies (entry counts (at g n).item) ≡ true) ⊎ (ltb (at g n).copies (entry counts (at g n).item) ≡ false) → a / 2 ≡ n
+    go (inl t) = omega (arith, e ∙ cond-true _ _ _ t)
+    go (inr t) = omega (arith, e ∙ cond-false _ _ _ t)
+
 -- one arc more
 verdict_more : (f : List ℕ) (times : ℕ) (over : Bool) (a : ℕ) (r : Option (List ℕ)) → verdict f times over (prepend a r) ≡ verdict f times (over || ltb limit (on f a + times)) r
 verdict_more f times over a None = refl
 verdict_more f times true a (Some arcs) = refl
 verdict_more f times false a (Some arcs) = refl
 
--- the check has come to node n, and `over` tells of the arcs so far
-pub record Checking (g : List Row) (f counts : List ℕ) (times n : ℕ) (over : Bool) : Type 0 where
+or_on : (b : Bool) {x : Bool} → x ≡ true → (b || x) ≡ true
+or_on true e = refl
+or_on false e = e
+
+or_off : (b : Bool) {x : Bool} → x ≡ false → (b || x) ≡ b
+or_off true e = refl
+or_off false e = e
+
+-- the check has come to node n, and the answer so far tells of the arcs up to it
+pub record Checking (g : List Row) (f counts : List ℕ) (times n : ℕ) (answer : Result (Unit {0}) Refusal) : Type 0 where
   pub low : n < length g
+  pub over : Bool
+  pub told : answer ≡ cond over (Err ArcOverLimit) (Ok tt)
   pub same : verdict f times over (walk g (ahead counts (at g n)) n) ≡ verdict f times false (walk g counts 0)
 
 module _ (g : List Row) (f counts : List ℕ) (times : ℕ) (s : Forward (length counts) g) where
-  pub check_start : Checking g f counts times 0 false
-  check_start = record { low = omega (arith, s.two); same = ap (verdict f times false) (at_first g counts s) }
+  pub check_start : Checking g f counts times 0 (Ok tt)
+  check_start = record { low = omega (arith, s.two); over = false; told = refl; same = ap (verdict f times false) (at_first g counts s) }
 
-  module _ (n a : ℕ) (over : Bool) (w : Checking g f counts times n over) (inner : suc n < length g) (e : a ≡ choice g counts n) where
+  module _ (n a : ℕ) (answer : Result (Unit {0}) Refusal) (w : Checking g f counts times n answer) (inner : suc n < length g) (e : a ≡ choice g counts n) where
     pub check_none : None ≡ head g a → Err NoPattern ≡ verdict f times false (walk g counts 0)
-    check_none none = sym (ap (verdict f times over) (route_stops g counts s n a inner e (sym none))) ∙ w.same
+    check_none none = sym (ap (verdict f times w.over) (route_stops g counts s n a inner e (sym none))) ∙ w.same
 
-    pub check_step : (k : ℕ) (more : Bool) → Some k ≡ head g a → more ≡ (over || ltb limit (on f a + times)) → Checking g f counts times k more
-    check_step k more leads is = record {
-      low = (route_up g counts s n a inner e k (sym leads)).1;
-      same =
-          ap (λ b. verdict f times b (walk g (ahead counts (at g k)) k)) is
-          ∙ sym (verdict_more f times over a (walk g (ahead counts (at g k)) k))
-          ∙ sym (ap (verdict f times over) (route_goes g counts s n a inner e k (sym leads)))
-          ∙ w.same;
-    }
+    module _ (k : ℕ) (leads : Some k ≡ head g a) where
+      goes_on : verdict f times (w.over || ltb limit (on f a + times)) (walk g (ahead counts (at g k)) k) ≡ verdict f times false (walk g counts 0)
+      goes_on =
+          sym (verdict_more f times w.over a (walk g (ahead counts (at g k)) k))
+          ∙ sym (ap (verdict f times w.over) (route_goes g counts s n a inner e k (sym leads)))
+          ∙ w.same
 
-  pub check_end : (n : ℕ) (over : Bool) → Checking g f counts times n over → suc n ≡ length g → cond over (Err ArcOverLimit) (Ok tt) ≡ verdict f times false (walk g counts 0)
-  check_end n over w last = last_is over ∙ sym (ap (verdict f times over) (at_last g counts s n last)) ∙ w.same
+      pub check_over : times ≤ limit → limit - times < on f a → Checking g f counts times k (Err ArcOverLimit)
+      check_over few lt = record {
+        low = (route_up g counts s n a inner e k (sym leads)).1;
+        over = true;
+        told = refl;
+        same = ap (λ b. verdict f times b (walk g (ahead counts (at g k)) k)) (sym (or_on w.over (lt-ltb _ _ (omega arith)))) ∙ goes_on;
+      }
+
+      pub check_fits : times ≤ limit → on f a ≤ limit - times → Checking g f counts times k answer
+      check_fits few le = record {
+        low = (route_up g counts s n a inner e k (sym leads)).1;
+        over = w.over;
+        told = w.told;
+        same = ap (λ b. verdict f times b (walk g (ahead counts (at g k)) k)) (sym (or_off w.over (le-ltb _ _ (omega arith)))) ∙ goes_on;
+      }
+
+  pub check_end : (n : ℕ) (answer : Result (Unit {0}) Refusal) → Checking g f counts times n answer → suc n ≡ length g → answer ≡ verdict f times false (walk g counts 0)
+  check_end n answer w last = w.told ∙ last_is w.over ∙ sym (ap (verdict f times w.over) (at_last g counts s n last)) ∙ w.same
     where
       last_is : (b : Bool) → cond b (Err ArcOverLimit) (Ok tt) ≡ verdict f times b (Some [])
       last_is true = refl
       last_is false = refl
-
-pub or_on : (b x : Bool) → b ≡ true → b ≡ (b || x)
-or_on b x e = e ∙ sym (ap (λ a. a || x) e)
-
-pub or_off : (b x y : Bool) → b ≡ false → y ≡ x → y ≡ (b || x)
-or_off b x y e f = f ∙ sym (ap (λ a. a || x) e)
-
-pub over_test : (flow times : ℕ) → times ≤ limit → ltb (limit - times) flow ≡ ltb limit (flow + times)
-over_test flow times le = go (cases_lt limit (flow + times))
-  where
-    go : (limit < flow + times) ⊎ (flow + times ≤ limit) → ltb (limit - times) flow ≡ ltb limit (flow + times)
-    go (inl h) = lt-ltb _ _ (omega arith) ∙ sym (lt-ltb _ _ h)
-    go (inr h) = le-ltb _ _ (omega arith) ∙ sym (le-ltb _ _ h)
 
 -- the parts of a route that goes on
 record Further (a : ℕ) (r : Option (List ℕ)) (arcs : List ℕ) : Type 0 where
@@ -185,55 +204,56 @@ further : (a : ℕ) (r : Option (List ℕ)) (arcs : List ℕ) → prepend a r �
 further a None arcs e = absurd (some≢none arcs (sym e))
 further a (Some rest) arcs e = record { rest = rest; is = refl; parts = (cc) }
 
--- The addition has come to node n: the arcs ahead, and the flow f so far.
-pub record Adding (g : List Row) (f₀ f counts whole : List ℕ) (times n : ℕ) : Type 0 where
-  pub low : n < length g
+-- The addition is about to take arc a: the arcs ahead, and the flow f so far.
+pub record Adding (g : List Row) (f₀ f counts whole : List ℕ) (times a : ℕ) : Type 0 where
+  pub low : a / 2 < length g
+  pub arc : a ≡ choice g counts (a / 2)
   pub long : length f ≡ length f₀
   pub arcs : List ℕ
-  pub goes : walk g (ahead counts (at g n)) n ≡ Some arcs
+  pub goes : walk g (ahead counts (at g (a / 2))) (a / 2) ≡ Some arcs
   pub room : overflows f₀ times arcs ≡ false
-  pub untouched : (a : ℕ) → 2 * n ≤ a → on f a ≡ on f₀ a
+  pub untouched : (b : ℕ) → 2 * (a / 2) ≤ b → on f b ≡ on f₀ b
   pub pushed : push f arcs times ≡ push f₀ whole times
 
 module _ (g : List Row) (f₀ counts whole : List ℕ) (times : ℕ) (s : Forward (length counts) g) where
-  pub add_start : walk g counts 0 ≡ Some whole → overflows f₀ times whole ≡ false → Adding g f₀ f₀ counts whole times 0
-  add_start e room = record { low = omega (arith, s.two); long = refl; arcs = whole; goes = at_first g counts s ∙ e; room = room; untouched = λ a le. refl; pushed = refl }
+  adding_at : (f : List ℕ) (n a : ℕ) (arcs : List ℕ) → n < length g → a ≡ choice g counts n → length f ≡ length f₀ → walk g (ahead counts (at g n)) n ≡ Some arcs → overflows f₀ times arcs ≡ false →
+      ((b : ℕ) → 2 * n ≤ b → on f b ≡ on f₀ b) → push f arcs times ≡ push f₀ whole times → Adding g f₀ f counts whole times a
+  adding_at f n a arcs low e long goes room untouched pushed =
+      let is : a / 2 ≡ n = tail_choice g counts n a e in
+      record { low = omega arith; arc = e ∙ ap (choice g counts) (sym is); long = long; arcs = arcs; goes = ap (λ v. walk g (ahead counts (at g v)) v) is ∙ goes; room = room; untouched = λ b le. untouched b (omega arith); pushed = pushed }
 
-  module _ (f : List ℕ) (n a : ℕ) (w : Adding g f₀ f counts whole times n) (inner : suc n < length g) (e : a ≡ choice g counts n) where
-    pub add_there : None ≡ head g a → ⊥
-    add_there none = some≢none w.arcs (sym w.goes ∙ route_stops g counts s n a inner e (sym none))
+  pub add_start : (a : ℕ) → walk g counts 0 ≡ Some whole → overflows f₀ times whole ≡ false → a ≡ choice g counts 0 → Adding g f₀ f₀ counts whole times a
+  add_start a e room first = adding_at f₀ 0 a whole (omega (arith, s.two)) first refl (at_first g counts s ∙ e) room (λ b le. refl) refl
+
+  module _ (f : List ℕ) (a : ℕ) (w : Adding g f₀ f counts whole times a) where
+    pub add_end : None ≡ head g a → f ≡ push f₀ whole times
+    add_end none = ap (λ arcs. push f arcs times) (ended (cases_eq (suc (a / 2)) (length g))) ∙ w.pushed
+      where
+        ended : (suc (a / 2) ≡ length g) ⊎ (suc (a / 2) ≢ length g) → [] ≡ w.arcs
+        ended (inl last) = let z = sym (at_last g counts s (a / 2) last) ∙ w.goes in cc
+        ended (inr ne) = absurd (some≢none w.arcs (sym w.goes ∙ route_stops g counts s (a / 2) a (omega (arith, w.low)) w.arc (sym none)))
 
     module _ (k : ℕ) (leads : Some k ≡ head g a) where
+      pub add_up : (a / 2 < k) × (k < length g)
+      add_up = upward s a k (sym leads)
+
+      inner : suc (a / 2) < length g
+      inner = omega (arith, add_up)
+
       on_to : Further a (walk g (ahead counts (at g k)) k) w.arcs
-      on_to = further a (walk g (ahead counts (at g k)) k) w.arcs (sym (route_goes g counts s n a inner e k (sym leads)) ∙ w.goes)
+      on_to = further a (walk g (ahead counts (at g k)) k) w.arcs (sym (route_goes g counts s (a / 2) a inner w.arc k (sym leads)) ∙ w.goes)
 
       rooms : (ltb limit (on f₀ a + times) ≡ false) × (overflows f₀ times on_to.rest ≡ false)
       rooms = or_parts (ltb limit (on f₀ a + times)) (overflows f₀ times on_to.rest) (sym (ap (overflows f₀ times) on_to.parts) ∙ w.room)
 
-      pub add_up : n < k
-      add_up = (route_up g counts s n a inner e k (sym leads)).0
-
       pub add_fits : on f a + times ≤ limit
-      add_fits = omega (arith, ltb-false limit (on f₀ a + times) rooms.0, w.untouched a (omega (arith, (route_up g counts s n a inner e k (sym leads)).2)))
+      add_fits = omega (arith, ltb-false limit (on f₀ a + times) rooms.0, w.untouched a (omega arith))
 
-      pub add_step : Adding g f₀ (set f a (on f a + times)) counts whole times k
-      add_step =
-          let up = route_up g counts s n a inner e k (sym leads) in
-          record {
-            low = up.1;
-            long = length-set f a (on f a + times) ∙ w.long;
-            arcs = on_to.rest;
-            goes = on_to.is;
-            room = rooms.1;
-            untouched = λ b le. get_or-set_other f a b (on f a + times) 0 (omega (arith, up.0, up.2)) ∙ w.untouched b (omega (arith, up.0));
-            pushed = sym (ap (λ arcs. push f arcs times) on_to.parts) ∙ w.pushed;
-          }
-
-  pub add_end : (f : List ℕ) (n : ℕ) → Adding g f₀ f counts whole times n → suc n ≡ length g → f ≡ push f₀ whole times
-  add_end f n w last = ap (λ arcs. push f arcs times) none ∙ w.pushed
-    where
-      none : [] ≡ w.arcs
-      none = let z = sym (at_last g counts s n last) ∙ w.goes in cc
+      pub add_step : (b : ℕ) → b ≡ choice g counts k → Adding g f₀ (set f a (on f a + times)) counts whole times b
+      add_step b next =
+          adding_at (set f a (on f a + times)) k b on_to.rest add_up.1 next (length-set f a (on f a + times) ∙ w.long) on_to.is rooms.1
+          (λ e le. get_or-set_other f a e (on f a + times) 0 (omega (arith, add_up)) ∙ w.untouched e (omega (arith, add_up)))
+          (sym (ap (λ arcs. push f arcs times) on_to.parts) ∙ w.pushed)
 
 -- One flow set.
 pub limited_set : (f : List ℕ) (a x k : ℕ) → on f k ≤ limit → x ≤ limit → on (set f a x) k ≤ limit

@@ -1,28 +1,23 @@
 -- The steps of scans.
-use Rattle.std.proofs.Common.{◌≡◌, ℕ, zero, suc, ◌+◌, ◌-◌, ◌*◌, ◌/◌, ◌<◌, ◌≤◌, Bool, true, false, cond, not, ◌&&◌, eqb, ltb, ◌⊎◌, List, length, get_or, is_some, Some, None, sym, refl, ap, ◌∙◌, inl, inr, add-one, arith}
+use Rattle.std.proofs.Common.{◌≡◌, ℕ, ◌+◌, ◌*◌, ◌/◌, ◌<◌, ◌≤◌, Bool, true, false, cond, not, ◌&&◌, eqb, ltb, ◌⊎◌, List, length, get_or, is_some, Some, None, refl, ap, inl, inr, add-one, arith}
 use Rattle.std.proofs.lemmas.List.{get_or_past, get_or-map, length-map}
 use Rattle.std.proofs.lemmas.Bool.{cases_lt, le-ltb, lt-ltb, eq-eqb, ne_eqb, and_right, and_from, not_from_true}
 use Rattle.packing.specs.Problem.{entry}
 use Rattle.graph.specs.declared.Row.{Row}
 use Rattle.graph.specs.Graph.{at, blank, tail, takes, head}
 use Rattle.flow.specs.declared.ItemRecord.{ItemRecord}
-use Rattle.flow.specs.Arcs.{takes_item}
-use Rattle.flow.specs.Flow.{inflow, outflow, copies_of}
-use Rattle.flow.specs.Job.{Content, lowest}
+use Rattle.flow.specs.Arcs.{takes_item, numbers}
+use Rattle.flow.specs.Flow.{on, carried, inflow, outflow, copies_of}
+use Rattle.flow.specs.Job.{Content}
 use Rattle.flow.specs.Scans.{no_item, demands_of}
 use Rattle.flow.proofs.Shape.{not_none}
 use Rattle.flow.proofs.Accept.{off, short}
-use Rattle.flow.proofs.Loops.{lowest_next}
+use Rattle.flow.proofs.Loops.{carried_more}
+use Rattle.flow.proofs.Paths.{takes_pass, takes_take, tail_take, head_take}
 
 pub cond_le : (b : Bool) (x n : ℕ) → x ≤ n → cond b x 0 ≤ n
 cond_le true x n h = h
 cond_le false x n h = omega arith
-
-pub lowest_on : (p : ℕ → Bool) (n : ℕ) → lowest p n ≡ None → p n ≡ false → lowest p (n + 1) ≡ None
-lowest_on p n none off = rw add-one (lowest_next p n none off)
-
-pub lowest_from : (p : ℕ → Bool) → p 0 ≡ false → lowest p 1 ≡ None
-lowest_from p off = lowest_next p 0 refl off
 
 -- there is no arc past the last node
 pub none_past : (g : List Row) (a : ℕ) → length g ≤ a / 2 → head g a ≡ None
@@ -39,12 +34,20 @@ arc_within g a k e = go (cases_lt (a / 2) (length g))
     go (inl lt) = omega arith
     go (inr le) = absurd (not_none (head g a) k e (none_past g a le))
 
-pub takes_none : (g : List Row) (i a x : ℕ) → head g a ≡ None → 0 ≡ cond (takes_item g i a) x 0
-takes_none g i a x e = sym (ap (λ o. cond (takes a && (is_some o && eqb (at g (tail a)).item i)) x 0) e ∙ stays (takes a))
-  where
-    stays : (b : Bool) → cond (b && false) x 0 ≡ 0
-    stays true = refl
-    stays false = refl
+-- the copies of an item on the arcs of one node more
+pub copies_more : (g : List Row) (f : List ℕ) (i n : ℕ) →
+    carried f (numbers (takes_item g i) (2 * (n + 1))) ≡ carried f (numbers (takes_item g i) (2 * n)) + cond (is_some (at g n).take && eqb (at g n).item i) (on f (2 * n + 1)) 0
+copies_more g f i n =
+    omega (
+      arith,
+      ap (λ k. carried f (numbers (takes_item g i) k)) (let e : 2 * (n + 1) ≡ 2 * n + 1 + 1 = omega arith in e),
+      carried_more f (takes_item g i) (2 * n + 1),
+      carried_more f (takes_item g i) (2 * n),
+      ap (λ b. cond (b && (is_some (head g (2 * n)) && eqb (at g (tail (2 * n))).item i)) (on f (2 * n)) 0) (takes_pass n),
+      ap (λ b. cond (b && (is_some (head g (2 * n + 1)) && eqb (at g (tail (2 * n + 1))).item i)) (on f (2 * n + 1)) 0) (takes_take n),
+      ap (λ o. cond (is_some o && eqb (at g (tail (2 * n + 1))).item i) (on f (2 * n + 1)) 0) (head_take g n),
+      ap (λ k. cond (is_some (at g n).take && eqb (at g k).item i) (on f (2 * n + 1)) 0) (tail_take n),
+    )
 
 -- a node that is off balance, or not
 module _ (j : Content) where
@@ -54,10 +57,9 @@ module _ (j : Content) where
   pub off_so : (v : ℕ) → 0 < v → (inflow j.graph j.flow v ≡ outflow j.flow v → ⊥) → off j v ≡ true
   off_so v pos ne = and_from (ltb 0 v) _ (lt-ltb 0 v pos) (ap not (ne_eqb (inflow j.graph j.flow v) (outflow j.flow v) ne))
 
--- the demand of an item
-pub entry_demand : (items : List ItemRecord) (i : ℕ) → 0 < i → i ≤ length items → entry (demands_of items) i ≡ (get_or items (i - 1) no_item).demand
-entry_demand items zero h le = absurd (omega arith)
-entry_demand items (suc k) h le = get_or-map (λ (r : ItemRecord). r.demand) items k no_item 0 (omega arith) ∙ ap (λ n. (get_or items n no_item).demand) (let e : k ≡ suc k - 1 = omega arith in e)
+-- the demand of the item at a place
+pub entry_demand : (items : List ItemRecord) (k : ℕ) → k < length items → entry (demands_of items) (k + 1) ≡ (get_or items k no_item).demand
+entry_demand items k lt = rw add-one (get_or-map (λ (r : ItemRecord). r.demand) items k no_item 0 lt)
 
 pub demands_long : (items : List ItemRecord) → length (demands_of items) ≡ length items
 demands_long items = length-map items (λ (r : ItemRecord). r.demand)

@@ -7,7 +7,6 @@ use Rattle.graph.specs.declared.Row.{Row}
 use Rattle.graph.specs.Graph.{at, pass_arc, take_arc, tail, takes, Layered}
 use Rattle.flow.specs.Flow.{on, value, Balanced, OnArcs, least, trail}
 use Rattle.flow.specs.Job.{limit, overflows}
-use Rattle.flow.specs.Scans.{Fits}
 
 -- the arc by which the trail leaves node n
 abbrev pub carrier : List ℕ → ℕ → ℕ
@@ -16,7 +15,6 @@ carrier f n = cond (nat_lt 0 (on f (take_arc n))) (take_arc n) (pass_arc n)
 -- a balanced flow with value left, on a graph of m items
 pub record Flowing (m : ℕ) (g : List Row) (f : List ℕ) : Type 0 where
   pub some_item : 1 ≤ m
-  pub fits : Fits g f
   pub layers : Layered m g
   pub arcs : OnArcs g f
   pub balanced : Balanced g f
@@ -42,9 +40,8 @@ verdict f times over None = Err NoPattern
 verdict f times over (Some arcs) = cond (over || overflows f times arcs) (Err ArcOverLimit) (Ok tt)
 
 -- a count for each item of the graph, and times within the limit
-pub record Placeable (g : List Row) (f counts : List ℕ) (times : ℕ) : Type 0 where
+pub record Placeable (g : List Row) (counts : List ℕ) (times : ℕ) : Type 0 where
   pub some_item : 1 ≤ length counts
-  pub fits : Fits g f
   pub layers : Layered (length counts) g
   pub few : times ≤ limit
 

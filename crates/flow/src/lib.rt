@@ -6,6 +6,7 @@ ghost use Rattle.flow.specs.Cases.{CasesRuled, MarkedCases, RefusedInOrder};
 ghost use Rattle.flow.specs.Exact.{ModelsExactly};
 ghost use Rattle.flow.specs.Law.{PacksSoundly};
 
+pub mod flows;
 pub mod scans;
 pub mod walks;
 
@@ -13,7 +14,7 @@ pub mod walks;
 pub const LIMIT: u32 = 1_000_000_000;
 
 // An item's demand, and the copies of it that are left on its take arcs.
-#[derive(Clone, Copy)]
+#[derive(Clone, Copy, Default)]
 pub struct ItemRecord {
     pub demand: u32,
     pub left: u64,

@@ -1,7 +1,11 @@
 -- The ways out of accept.
-use Rattle.std.proofs.Common.{◌≡◌, ℕ, suc, ◌<◌, ◌≤◌, cond, ltb, Some, None, Option, sym, refl, ap, ◌∙◌, subst, arith}
+use Rattle.std.proofs.Common.{◌≡◌, ℕ, suc, ◌<◌, ◌≤◌, cond, ltb, List, [], Some, None, Option, sym, refl, ap, ◌∙◌, subst, arith}
 use Rattle.std.proofs.lemmas.List.{take-append-drop}
 use Rattle.std.proofs.lemmas.Bool.{cond-true, cond-false, lt-ltb, le-ltb}
+use Rattle.arrayvec.specs.ArrayVec.{ArrayVec, with_items}
+use Rattle.graph.specs.declared.Row.{Row}
+use Rattle.flow.specs.Scans.{holding}
+use Rattle.flow.specs.declared.ItemRecord.{ItemRecord}
 use Rattle.refusal.specs.declared.Refusal.TheVariants.{Unbalanced, ValueOverLimit, BelowDemand}
 use Rattle.flow.specs.Flow.{copies_of, value, carrying}
 use Rattle.flow.specs.Job.{limit, Content, View.Open, View.Accepted, Call.Accept, Reply.Worth, Answer.Done, Outcome, refuse, refuse_at, unbalanced, lacking, accept}
@@ -14,7 +18,7 @@ use Rattle.job.specs.Contract.{Follows}
 use Rattle.job.specs.Changes.{LeftsSet}
 use Rattle.job.proofs.Facts.{open_loaded}
 use Rattle.job.proofs.Follow.{follows, holds_now}
-use Rattle.job.proofs.Records.{relabelled, demands_same}
+use Rattle.job.proofs.Records.{retold}
 
 module _ (j : Content) where
   abbrev agreed : Outcome
@@ -25,6 +29,9 @@ module _ (j : Content) where
 
   balance : (o : Option ℕ) → unbalanced j ≡ o → accept (Open j) ≡ refuse_at (Open j) Unbalanced o (cond (ltb limit (value j.flow)) (refuse (Open j) ValueOverLimit) covered)
   balance o e = ap (λ o. refuse_at (Open j) Unbalanced o (cond (ltb limit (value j.flow)) (refuse (Open j) ValueOverLimit) covered)) e
+
+  pub accept_uneven : (v : ℕ) → unbalanced j ≡ Some v → accept (Open j) ≡ refuse (Open j) (Unbalanced v)
+  accept_uneven v e = balance (Some v) e
 
   pub accept_large : unbalanced j ≡ None → limit < value j.flow → accept (Open j) ≡ refuse (Open j) ValueOverLimit
   accept_large even lt = balance None even ∙ cond-true _ _ _ (lt-ltb limit (value j.flow) lt)
@@ -39,13 +46,23 @@ module _ (j : Content) where
     pub accept_done : lacking j ≡ None → accept (Open j) ≡ agreed
     accept_done e = demand None e
 
+-- what a scan of the job's graph and flow finds
+pub uneven : (b : Core) (g : List Row) (f : List ℕ) → g ≡ graph_of b → f ≡ flow_of b → unbalanced (holding g f []) ≡ unbalanced (content b)
+uneven b g f rows arcs = λ i. unbalanced (holding (rows i) (arcs i) [])
+
+-- the records xs of a job, as new, told of the flow f on graph g
+pub tallied : (b : Core) (g : List Row) (f : List ℕ) (xs new : List ItemRecord) → g ≡ graph_of b → f ≡ flow_of b → xs ≡ b.items.items → LeftsSet xs new (λ i. copies_of g f (suc i)) →
+    LeftsSet b.items.items (with_items b.items new).items (λ i. copies_of (graph_of b) (flow_of b) (suc i))
+tallied b g f xs new rows arcs is h =
+    retold b.items (λ _ i. copies_of (graph_of b) (flow_of b) (suc i)) xs new is
+    (subst (λ k. LeftsSet xs new (λ i. copies_of (graph_of b) k (suc i))) arcs (subst (λ k. LeftsSet xs new (λ i. copies_of k f (suc i))) rows h))
+
 -- accept, done
-pub accepted : (b d : Core) (z n : ℕ) → Kept b → b.state ≡ TheVariants.Open → LeftsSet b d b.count (λ i. copies_of (graph_of b) (flow_of b) (suc i)) →
+pub accepted : (b : Core) (t : ArrayVec ItemRecord) (z n : ℕ) → Kept b → b.state ≡ TheVariants.Open → LeftsSet b.items.items t.items (λ i. copies_of (graph_of b) (flow_of b) (suc i)) →
     unbalanced (content b) ≡ None → z ≡ value (flow_of b) → z ≤ limit → lacking (content b) ≡ None → n ≡ carrying (flow_of b) →
-    Follows b (record { rows = d.rows; cells = d.cells; items = d.items; count = d.count; state = TheVariants.Accepted }) Accept (Done (Worth z n))
-accepted b d z n k opened h even is small short counts =
+    Follows b (record { rows = b.rows; cells = b.cells; items = t; state = TheVariants.Accepted }) Accept (Done (Worth z n))
+accepted b t z n k opened h even is small short counts =
     let l = k.loaded (open_loaded b.state opened) in
-    subst (λ e. Follows b e Accept (Done (Worth z n))) (relabelled b d b.count _ h TheVariants.Accepted)
-    (follows b b.cells d.items TheVariants.Accepted (flow_of b) (holds_now b l) (sym (take-append-drop (arcs_of b) b.cells.now)) Accept (Worth z n) l (h.long ∙ k.table) refl
-    (λ e. record { balanced = balanced_from (content b) even; left = h.told }) (demands_same b d b.count _ h b.count)
-    (ap (λ s. accept (shown s (content b))) opened ∙ accept_done (content b) even (omega arith) short ∙ (λ i. (Done (Worth (sym is i) (sym counts i)), Accepted (content b)))))
+    follows b b.cells t TheVariants.Accepted (flow_of b) (holds_now b l) (sym (take-append-drop (arcs_of b) b.cells.now)) Accept (Worth z n) l refl
+    (λ e. record { balanced = balanced_from (content b) even; left = λ i lt. h.told i (omega (arith, h.long)) }) h.demands
+    (ap (λ s. accept (shown s (content b))) opened ∙ accept_done (content b) even (omega arith) short ∙ (λ i. (Done (Worth (sym is i) (sym counts i)), Accepted (content b))))

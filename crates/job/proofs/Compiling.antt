@@ -1,7 +1,7 @@
 -- A job with a compiled graph.
-use Rattle.std.proofs.Common.{◌≡◌, ℕ, ◌+◌, ◌-◌, ◌*◌, ◌/◌, ◌<◌, ◌≤◌, min, leb, List, [], ◌∷◌, ◌++◌, map, length, get_or, take, drop, replicate, None, Ok, Err, sym, refl, ap, ◌∙◌, subst, ⊎_elim, arith, length-set, MutBor}
+use Rattle.std.proofs.Common.{◌≡◌, ℕ, ◌-◌, ◌*◌, ◌/◌, ◌<◌, ◌≤◌, min, leb, List, ◌++◌, map, length, get_or, take, drop, replicate, None, Ok, Err, sym, refl, ap, ◌∙◌, subst, ⊎_elim, arith, MutBor}
 use lib.ListN.{length-replicate}
-use Rattle.std.proofs.lemmas.List.{get_or-map, length-map, map_push, take_more, take_more_set, take_all, take_at, drop_at, take-append-le, drop-append-le, take-append-drop, length-append, length-drop, length-take-le}
+use Rattle.std.proofs.lemmas.List.{get_or-map, length-map, take_at, drop_at, take-append-le, drop-append-le, take-append-drop, length-append, length-drop, length-take-le}
 use Rattle.std.proofs.lemmas.Bool.{cond-true, cond-false, le-leb, lt-leb, cases_lt}
 use Rattle.limits.specs.Meaning.{Meaning}
 use Rattle.refusal.specs.declared.Refusal.TheVariants.{BadItem, TooManyNodes}
@@ -17,50 +17,15 @@ use Rattle.graph.proofs.Laws.{compiles_layered}
 use Rattle.compile.specs.Growth.{capacity}
 use Rattle.compile.specs.Memory.{CompilesTo}
 use Rattle.compile.proofs.Orders.{some_item, few_items}
-use Rattle.flow.specs.declared.ItemRecord.{ItemRecord}
 use Rattle.flow.specs.Job.{View.Open, Call.Compile, Answer.Done, Reply.Nodes, refuse_at, fresh, no_flow, opened, step}
-use Rattle.flow.specs.Scans.{demands_of}
 use Rattle.job.specs.declared.state.Core.{Core}
 use Rattle.job.specs.declared.state.State.TheVariants
-use Rattle.job.specs.View.{graph_of, flow_of, size, view}
+use Rattle.job.specs.View.{graph_of, flow_of, count_of, size, view}
 use Rattle.job.specs.Sound.{Kept}
-use Rattle.job.specs.Changes.{ItemSet, ItemsSet}
+use Rattle.job.specs.Changes.{ItemsSet}
 use Rattle.job.specs.Building.{Compiles}
-use Rattle.job.proofs.Facts.{accepted_loaded}
+use Rattle.job.proofs.Facts.{accepted_loaded, demands_count}
 use Rattle.job.proofs.Follow.{kept_fresh, view_fresh}
-
--- Taking over the demands, record by record. c is b with the first n of them.
-pub record FrontSet (b c : Core) (wanted : List ℕ) (n : ℕ) : Type 0 where
-  pub rows : c.rows ≡ b.rows
-  pub cells : c.cells ≡ b.cells
-  pub state : c.state ≡ b.state
-  pub long : length c.items ≡ length b.items
-  pub told : demands_of (take n c.items) ≡ take n wanted
-
-pub front_start : (b : Core) (wanted : List ℕ) → FrontSet b b wanted 0
-front_start b wanted = record { rows = refl; cells = refl; state = refl; long = refl; told = refl }
-
-pub front_more : (b c d : Core) (wanted : List ℕ) (n x : ℕ) → FrontSet b c wanted n → ItemSet c d n x → n < length b.items → n < length wanted → x ≡ get_or wanted n 0 → FrontSet b d wanted (n + 1)
-front_more b c d wanted n x h one lt there_is is = record {
-  rows = one.rows ∙ h.rows;
-  cells = one.cells ∙ h.cells;
-  state = one.state ∙ h.state;
-  long = ap length one.items ∙ length-set c.items n _ ∙ h.long;
-  told =
-      ap (λ (t : List ItemRecord). demands_of (take (n + 1) t)) one.items ∙ ap demands_of (take_more_set c.items n _ (omega (arith, h.long)))
-      ∙ map_push (λ (i : ItemRecord). i.demand) (take n c.items) _ ∙ (λ i. h.told i ++ is i ∷ []) ∙ sym (take_more wanted n 0 there_is);
-}
-
-pub front_end : (b c : Core) (wanted : List ℕ) (n m : ℕ) → FrontSet b c wanted n → n ≡ m → m ≡ length wanted →
-    ItemsSet b (record { rows = c.rows; cells = c.cells; items = c.items; count = m; state = c.state }) wanted
-front_end b c wanted n m h e is = record {
-  rows = h.rows;
-  cells = h.cells;
-  state = h.state;
-  long = h.long;
-  count = is;
-  demanded = ap (λ i. demands_of (take i c.items)) (sym e) ∙ h.told ∙ take_all n wanted (omega arith);
-}
 
 pub number_of_demands : (its : List Given) → length (demands (orders_of its)) ≡ length its
 number_of_demands its = length-map (orders_of its) _ ∙ length-map its order_of
@@ -107,9 +72,9 @@ module _ {L : Type 0} (f : L → List ℕ) (k : Meaning) (its : List Given) (b :
 
     -- the graph has more nodes than that
     pub too_many : (ys : List L) → (length made ≤ capacity b.rows → length made ≤ length (take room xs) → ⊥)
-        → Compiles f k orders b (record { rows = rows; cells = b.cells; items = b.items; count = b.count; state = TheVariants.Empty }) xs ys (Err TooManyNodes)
+        → Compiles f k orders b (record { rows = rows; cells = b.cells; items = b.items; state = TheVariants.Empty }) xs ys (Err TooManyNodes)
     too_many ys short = record {
-      sound = ∣ record { table = was.table; loaded = λ ne. absurd (ne refl); settled = λ e. absurd (accepted_loaded TheVariants.Empty e refl) } ∣₁;
+      sound = ∣ record { loaded = λ ne. absurd (ne refl); settled = λ e. absurd (accepted_loaded TheVariants.Empty e refl) } ∣₁;
       step = steps_to ∙ cond-false (leb (length made) (min (size b) (length xs))) _ _ (lt-leb (length made) (min (size b) (length xs)) above);
       room = record { rows = same_memory; cells = refl; size = ap (λ n. min (min n (length b.cells.now / 2)) 65535) same-room };
       left = λ ne. absurd (ne refl);
@@ -124,9 +89,9 @@ module _ {L : Type 0} (f : L → List ℕ) (k : Meaning) (its : List Given) (b :
     -- The graph stands in the rows, the cells of its arcs are wiped, and the demands taken over.
     module _ (mem : List L) (n : ℕ) (to : CompilesTo f k (items k orders) b.rows rows (take room xs) mem n) (long : length mem ≡ length (take room xs))
         (cells : MutBor (List ℕ)) (wrote : cells.now ≡ replicate (2 * n) 0 ++ drop (2 * n) b.cells.now) (lent : cells.ghost_name ≡ b.cells.ghost_name)
-        (c : Core) (took : ItemsSet (record { rows = rows; cells = cells; items = b.items; count = b.count; state = b.state }) c (demands orders)) where
+        (c : Core) (took : ItemsSet (record { rows = rows; cells = cells; items = b.items; state = b.state }) c (demands orders)) where
       abbrev after : Core
-      after = record { rows = rows; cells = cells; items = c.items; count = c.count; state = TheVariants.Open }
+      after = record { rows = rows; cells = cells; items = c.items; state = TheVariants.Open }
 
       abbrev zeros : List ℕ
       zeros = replicate (2 * n) 0
@@ -143,8 +108,8 @@ module _ {L : Type 0} (f : L → List ℕ) (k : Meaning) (its : List Given) (b :
       nodes_are : length (entries rows) ≡ n
       nodes_are = ap length to.rows ∙ sym to.count
 
-      count_is : c.count ≡ length its
-      count_is = took.count ∙ number_of_demands its
+      count_is : count_of c ≡ length its
+      count_is = sym (demands_count c) ∙ ap length took.demands ∙ number_of_demands its
 
       cells_long : length cells.now ≡ length b.cells.now
       cells_long = omega (arith, in_cells, few, ap length wrote, length-append zeros past, zeros_long, length-drop (2 * n) b.cells.now)
@@ -154,17 +119,17 @@ module _ {L : Type 0} (f : L → List ℕ) (k : Meaning) (its : List Given) (b :
           ap (λ m. take (2 * m) cells.now) nodes_are ∙ ap (take (2 * n)) wrote ∙ take_at zeros past (2 * n) zeros_long
           ∙ ap (λ m. replicate (2 * m) 0) (sym nodes_are)
 
-      layers : Layered c.count (graph_of after)
+      layers : Layered (count_of c) (graph_of after)
       layers = subst (λ m. Layered m (entries rows)) (length-map orders (item_of k) ∙ length-map its order_of ∙ sym count_is) (subst (λ g. Layered (length (items k orders)) g) (sym to.rows) (compiles_layered k (items k orders)).0)
 
       kept_after : Kept after
-      kept_after = kept_fresh after refl (took.long ∙ was.table) (omega (arith, count_is, some_item k its sound)) (omega (arith, count_is, few_items k its sound))
+      kept_after = kept_fresh after refl (omega (arith, count_is, some_item k its sound)) (omega (arith, count_is, few_items k its sound))
           (omega (arith, nodes_are, few, in_limit)) (omega (arith, nodes_are, few, in_cells, cells_long)) layers wiped
 
       step_is : step (size b) (view b) (Compile k orders (length xs)) ≡ (Done (Nodes n), view after)
       step_is =
           steps_to ∙ cond-true (leb (length made) (min (size b) (length xs))) _ _ (le-leb (length made) (min (size b) (length xs)) (omega (arith, to.count, few)))
-          ∙ (λ i. (Done (Nodes (sym to.count i)), Open (fresh (sym to.rows i) (sym took.demanded i))))
+          ∙ (λ i. (Done (Nodes (sym to.count i)), Open (fresh (sym to.rows i) (sym took.demands i))))
           ∙ ap (λ v. (Done (Nodes n), v)) (sym (view_fresh after refl wiped))
 
       opens : Compiles f k orders b after xs (mem ++ drop room xs) (Ok n)
@@ -180,5 +145,5 @@ module _ {L : Type 0} (f : L → List ℕ) (k : Meaning) (its : List Given) (b :
         };
       }
 
-      pub compiles : Compiles f k orders b (record { rows = c.rows; cells = c.cells; items = c.items; count = c.count; state = TheVariants.Open }) xs (mem ++ drop room xs) (Ok n)
-      compiles = subst (λ d. Compiles f k orders b d xs (mem ++ drop room xs) (Ok n)) (sym (λ i. record { rows = took.rows i; cells = took.cells i; items = c.items; count = c.count; state = TheVariants.Open })) opens
+      pub compiles : Compiles f k orders b (record { rows = c.rows; cells = c.cells; items = c.items; state = TheVariants.Open }) xs (mem ++ drop room xs) (Ok n)
+      compiles = subst (λ d. Compiles f k orders b d xs (mem ++ drop room xs) (Ok n)) (sym (λ i. record { rows = took.rows i; cells = took.cells i; items = c.items; state = TheVariants.Open })) opens

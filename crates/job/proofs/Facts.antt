@@ -1,5 +1,5 @@
 -- What the invariant of a job gives.
-use Rattle.std.proofs.Common.{◌≡◌, ℕ, ◌<◌, List, length, get_or, take, ◌∙◌, arith}
+use Rattle.std.proofs.Common.{◌≡◌, ℕ, ◌<◌, List, length, get_or, arith}
 use std.Logic.{∥∥₁_elim}
 use denote.Struct.Props.{props}
 use Rattle.std.proofs.lemmas.List.{get_or-take, length-take-le}
@@ -12,7 +12,7 @@ use Rattle.flow.proofs.Scanning.{demands_long}
 use Rattle.job.specs.declared.state.State.{State}
 use Rattle.job.specs.declared.state.State.TheVariants.{Empty, Open, Accepted}
 use Rattle.job.specs.declared.state.Core.{Core}
-use Rattle.job.specs.View.{graph_of, arcs_of, flow_of, demanded}
+use Rattle.job.specs.View.{graph_of, arcs_of, flow_of, count_of, demanded}
 use Rattle.job.specs.Sound.{Stands, Tells, Loaded, Kept, Sound}
 
 stands_prop : (m : ℕ) (g : List Row) (cells : List ℕ) → IsProp (Stands m g cells)
@@ -26,17 +26,16 @@ stands_prop m g cells p q = λ i. record {
   limited = one_way p.limited q.limited (hlevel props) i;
 }
 
-tells_prop : (m : ℕ) (g : List Row) (f : List ℕ) (items : List ItemRecord) → IsProp (Tells m g f items)
-tells_prop m g f items p q = λ i. record {
+tells_prop : (g : List Row) (f : List ℕ) (items : List ItemRecord) → IsProp (Tells g f items)
+tells_prop g f items p q = λ i. record {
   balanced = one_way p.balanced q.balanced (hlevel props) i;
   left = one_way p.left q.left (hlevel props) i;
 }
 
 kept_prop : (c : Core) → IsProp (Kept c)
 kept_prop c p q = λ i. record {
-  table = one_way p.table q.table (hlevel props) i;
   loaded = λ h. stands_prop _ _ _ (p.loaded h) (q.loaded h) i;
-  settled = λ h. tells_prop _ _ _ _ (p.settled h) (q.settled h) i;
+  settled = λ h. tells_prop _ _ _ (p.settled h) (q.settled h) i;
 }
 
 -- the invariant, opened
@@ -53,7 +52,7 @@ pub open_unsettled : (s : State) → s ≡ Open → s ≡ Accepted → ⊥
 open_unsettled s a e = let z : ◌≡◌ {A = ℕ} 0 1 = cc in omega arith
 
 module _ (c : Core) (l : Loaded c) where
-  pub shape : Forward c.count (graph_of c)
+  pub shape : Forward (count_of c) (graph_of c)
   shape = forward l.some_item l.layers
 
   pub cells_are : length (flow_of c) ≡ arcs_of c
@@ -68,5 +67,5 @@ module _ (c : Core) (l : Loaded c) where
   pub cell_is : (a : ℕ) → a < arcs_of c → on (flow_of c) a ≡ get_or c.cells.now a 0
   cell_is a lt = get_or-take (arcs_of c) c.cells.now a 0 lt
 
-  pub demands_count : length c.items ≡ 64 → length (demanded c) ≡ c.count
-  demands_count long = demands_long (take c.count c.items) ∙ length-take-le c.count c.items (omega (arith, l.few))
+pub demands_count : (c : Core) → length (demanded c) ≡ count_of c
+demands_count c = demands_long c.items.items

@@ -3,6 +3,7 @@ use Rattle.std.proofs.Common.{◌≡◌, ℕ, suc, ◌*◌, ◌<◌, ◌≤◌, 
 use lib.ListN.{length-replicate}
 use Rattle.std.proofs.lemmas.List.{get_or_past, get_or-set_other, get_or-replicate, take_at, drop_at, set-append_left, take-append-drop, length-append}
 use Rattle.std.proofs.lemmas.Bool.{cases_lt, true≢false}
+use Rattle.arrayvec.specs.ArrayVec.{ArrayVec}
 use Rattle.refusal.specs.declared.Refusal.{Refusal}
 use Rattle.graph.specs.declared.Row.{Row}
 use Rattle.graph.specs.Graph.{head, Layered}
@@ -11,15 +12,15 @@ use Rattle.flow.specs.Flow.{on, copies_of, Balanced, OnArcs}
 use Rattle.flow.specs.Job.{limit, Content, View.Open, View.Accepted, Call, Call.Clear, Reply, Reply.Plain, Answer, fresh, Answer.Done, Answer.Refused, no_flow, step}
 use Rattle.flow.specs.Scans.{demands_of}
 use Rattle.flow.proofs.Shape.{not_none}
-use Rattle.flow.proofs.Scanning.{arc_within}
+use Rattle.flow.proofs.Scanning.{arc_within, demands_long}
 use Rattle.flow.proofs.Routing.{limited_set}
 use Rattle.job.specs.declared.state.State.{State}
 use Rattle.job.specs.declared.state.State.TheVariants
 use Rattle.job.specs.declared.state.Core.{Core}
-use Rattle.job.specs.View.{graph_of, arcs_of, flow_of, demanded, content, size, shown, view}
+use Rattle.job.specs.View.{graph_of, arcs_of, flow_of, count_of, demanded, content, size, shown, view}
 use Rattle.job.specs.Sound.{Loaded, Settled, Tells, Kept, Sound}
 use Rattle.job.specs.Contract.{Follows}
-use Rattle.job.proofs.Facts.{on_arcs, open_unsettled}
+use Rattle.job.proofs.Facts.{on_arcs, open_unsettled, demands_count}
 
 -- a call on an open job
 pub when_open : (b : Core) (c : Call) (r : Answer) (j : Content) → b.state ≡ TheVariants.Open → step (size b) (Open (content b)) c ≡ (r, Open j) → step (size b) (view b) c ≡ (r, shown b.state j)
@@ -37,9 +38,9 @@ pub record Holds (b : Core) (f : List ℕ) : Type 0 where
 pub holds_now : (b : Core) → Loaded b → Holds b (flow_of b)
 holds_now b l = record { arcs = on_arcs b l; limited = l.limited }
 
-module _ (b : Core) (r : MutBor (List ℕ)) (t : List ItemRecord) (s : State) where
+module _ (b : Core) (r : MutBor (List ℕ)) (t : ArrayVec ItemRecord) (s : State) where
   abbrev pub after : Core
-  after = record { rows = b.rows; cells = r; items = t; count = b.count; state = s }
+  after = record { rows = b.rows; cells = r; items = t; state = s }
 
   module _ (f : List ℕ) (h : Holds b f) (wrote : r.now ≡ f ++ drop (arcs_of b) b.cells.now) where
     flow_is : flow_of after ≡ f
@@ -48,18 +49,18 @@ module _ (b : Core) (r : MutBor (List ℕ)) (t : List ItemRecord) (s : State) wh
     past_is : drop (arcs_of b) r.now ≡ drop (arcs_of b) b.cells.now
     past_is = ap (drop (arcs_of b)) wrote ∙ drop_at f (drop (arcs_of b) b.cells.now) (arcs_of b) h.arcs.cells
 
-    loaded_after : Loaded b → Loaded after
-    loaded_after l = record {
-      some_item = l.some_item;
-      few = l.few;
+    loaded_after : Loaded b → length t.items ≡ count_of b → Loaded after
+    loaded_after l same = record {
+      some_item = omega (arith, l.some_item);
+      few = omega (arith, l.few);
       nodes = l.nodes;
       room = omega (arith, ap length wrote, length-append f (drop (arcs_of b) b.cells.now), h.arcs.cells);
-      layers = l.layers;
+      layers = subst (λ m. Layered m (graph_of b)) (sym same) l.layers;
       absent = λ a none. ap (λ g. on g a) flow_is ∙ h.arcs.absent a none;
       limited = λ a. subst (λ g. on g a ≤ limit) (sym flow_is) (h.limited a);
     }
 
-    settled_after : Tells b.count (graph_of b) f t → Settled after
+    settled_after : Tells (graph_of b) f t.items → Settled after
     settled_after q = record {
       balanced = subst (λ g. Balanced (graph_of b) g) (sym flow_is) q.balanced;
       left = λ i lt. q.left i lt ∙ ap (λ g. copies_of (graph_of b) g (suc i)) (sym flow_is);
@@ -68,16 +69,16 @@ module _ (b : Core) (r : MutBor (List ℕ)) (t : List ItemRecord) (s : State) wh
     abbrev left_with : Content
     left_with = record { graph = graph_of b; flow = f; demands = demanded b }
 
-    view_is : demands_of (take b.count t) ≡ demanded b → view after ≡ shown s left_with
+    view_is : demands_of t.items ≡ demanded b → view after ≡ shown s left_with
     view_is same = λ i. shown s (record { graph = graph_of b; flow = flow_is i; demands = same i })
 
     -- a call that is done and leaves this
-    pub follows : (c : Call) (x : Reply) → Loaded b → length t ≡ 64 → r.ghost_name ≡ b.cells.ghost_name →
-        (s ≡ TheVariants.Accepted → Tells b.count (graph_of b) f t) → demands_of (take b.count t) ≡ demanded b →
+    pub follows : (c : Call) (x : Reply) → Loaded b → r.ghost_name ≡ b.cells.ghost_name →
+        (s ≡ TheVariants.Accepted → Tells (graph_of b) f t.items) → demands_of t.items ≡ demanded b →
         step (size b) (view b) c ≡ (Done x, shown s (record { graph = graph_of b; flow = f; demands = demanded b })) →
         Follows b after c (Done x)
-    follows c x l long lent told same says = record {
-      sound = ∣ record { table = long; loaded = λ ne. loaded_after l; settled = λ e. settled_after (told e) } ∣₁;
+    follows c x l lent told same says = record {
+      sound = ∣ record { loaded = λ ne. loaded_after l (omega (arith, demands_long t.items, demands_count b, ap length same)); settled = λ e. settled_after (told e) } ∣₁;
       step = says ∙ ap (λ v. (Done x, v)) (sym (view_is same));
       memory = record { rows = refl; past = past_is; lent = lent };
       refused = λ e. absurd (true≢false e);
@@ -116,10 +117,9 @@ holds_none b = record {
 }
 
 -- what holds of an open job whose graph is new and whose flow is all 0
-pub kept_fresh : (c : Core) → c.state ≡ TheVariants.Open → length c.items ≡ 64 → 1 ≤ c.count → c.count ≤ 64 → length (graph_of c) ≤ 65535 → arcs_of c ≤ length c.cells.now →
-    Layered c.count (graph_of c) → flow_of c ≡ no_flow (graph_of c) → Kept c
-kept_fresh c opened long some few nodes room layers none = record {
-  table = long;
+pub kept_fresh : (c : Core) → c.state ≡ TheVariants.Open → 1 ≤ count_of c → count_of c ≤ 64 → length (graph_of c) ≤ 65535 → arcs_of c ≤ length c.cells.now →
+    Layered (count_of c) (graph_of c) → flow_of c ≡ no_flow (graph_of c) → Kept c
+kept_fresh c opened some few nodes room layers none = record {
   loaded = λ ne. record {
     some_item = some;
     few = few;

@@ -1,31 +1,38 @@
 -- What peel leaves.
-use Rattle.std.proofs.Common.{◌≡◌, ℕ, suc, ◌+◌, ◌-◌, ◌*◌, ◌<◌, ◌≤◌, List, ◌++◌, length, get_or, take, sym, ap, ◌∙◌, subst, arith}
+use Rattle.std.proofs.Common.{◌≡◌, ℕ, suc, ◌+◌, ◌-◌, ◌*◌, ◌<◌, ◌≤◌, List, ◌++◌, length, get_or, drop, sym, ap, ◌∙◌, subst, arith, MutBor}
 use Rattle.std.proofs.lemmas.List.{get_or_append_left, length-append}
 use Rattle.std.proofs.lemmas.Bool.{cond-true, cond-false, ne_eqb, lt-ltb, le-ltb}
+use Rattle.arrayvec.specs.ArrayVec.{ArrayVec}
+use Rattle.flow.specs.declared.ItemRecord.{ItemRecord}
 use Rattle.refusal.specs.declared.Refusal.TheVariants.{TooLittleMemory}
+use Rattle.graph.specs.declared.Row.{Row}
 use Rattle.graph.specs.Graph.{spelled}
 use Rattle.flow.specs.Flow.{value, copies_of, pull}
 use Rattle.flow.specs.Job.{View.Accepted, Call.Peel, Reply.Packed, Answer.Refused, Answer.Done, with_flow, next_arcs, next_bin, step}
-use Rattle.flow.specs.Scans.{no_item, demands_of}
+use Rattle.flow.specs.Scans.{no_item}
 use Rattle.flow.specs.Walks.{Flowing, Ready}
 use Rattle.flow.proofs.Paths.{path_long}
 use Rattle.flow.proofs.Peel.{Peeled, peeled, pull_less}
 use Rattle.job.specs.declared.state.State.TheVariants
 use Rattle.job.specs.declared.state.Core.{Core}
-use Rattle.job.specs.View.{graph_of, flow_of, demanded, content, size, view}
+use Rattle.job.specs.View.{graph_of, flow_of, arcs_of, count_of, demanded, content, size, view}
 use Rattle.job.specs.Sound.{Loaded, Kept}
 use Rattle.job.specs.Contract.{Follows}
-use Rattle.job.specs.Changes.{CellsSet, LeftsSet}
-use Rattle.job.proofs.Facts.{accepted_loaded, shape, fits, on_arcs, demands_count}
+use Rattle.job.specs.Changes.{LeftsSet}
+use Rattle.job.proofs.Facts.{accepted_loaded, shape, on_arcs, demands_count}
 use Rattle.job.proofs.Follow.{after, follows, Holds, when_accepted}
-use Rattle.job.proofs.Records.{demands_same}
 
 module _ (b : Core) (k : Kept b) (accepted : b.state ≡ TheVariants.Accepted) (some : 0 < value (flow_of b)) where
   pub loaded : Loaded b
   loaded = k.loaded (accepted_loaded b.state accepted)
 
-  pub flowing : Flowing b.count (graph_of b) (flow_of b)
-  flowing = record { some_item = loaded.some_item; fits = fits b loaded; layers = loaded.layers; arcs = on_arcs b loaded; balanced = (k.settled accepted).balanced; some = some }
+  pub flowing : Flowing (count_of b) (graph_of b) (flow_of b)
+  flowing = record { some_item = loaded.some_item; layers = loaded.layers; arcs = on_arcs b loaded; balanced = (k.settled accepted).balanced; some = some }
+
+  -- at names of the same
+  pub flowing_at : (m : ℕ) (g : List Row) (f : List ℕ) → m ≡ count_of b → g ≡ graph_of b → f ≡ flow_of b → Flowing m g f
+  flowing_at m g f count rows flow =
+      subst (λ n. Flowing n g f) (sym count) (subst (λ h. Flowing (count_of b) h f) (sym rows) (subst (λ h. Flowing (count_of b) (graph_of b) h) (sym flow) flowing))
 
   abbrev arcs : List ℕ
   arcs = next_arcs (content b)
@@ -33,18 +40,18 @@ module _ (b : Core) (k : Kept b) (accepted : b.state ≡ TheVariants.Accepted) (
   off : Peeled (graph_of b) (flow_of b) arcs ((next_bin (content b)).times)
   off = peeled (shape b loaded) (flow_of b) (on_arcs b loaded) (k.settled accepted).balanced some
 
-  pub spelled_long : length (spelled arcs) ≡ b.count
+  pub spelled_long : length (spelled arcs) ≡ count_of b
   spelled_long = omega (arith, path_long (shape b loaded) off.is_path, (shape b loaded).source.0)
 
-  pub no_room : (cells : ℕ) → cells < b.count → step (size b) (view b) (Peel cells) ≡ (Refused TooLittleMemory, view b)
+  pub no_room : (cells : ℕ) → cells < count_of b → step (size b) (view b) (Peel cells) ≡ (Refused TooLittleMemory, view b)
   no_room cells lt =
       when_accepted b (Peel cells) _ _ accepted
       (cond-false _ _ _ (ne_eqb (value (flow_of b)) 0 (λ e. omega (arith, some)))
-      ∙ cond-true _ _ _ (lt-ltb cells (length (demanded b)) (omega (arith, demands_count b loaded k.table))))
+      ∙ cond-true _ _ _ (lt-ltb cells (length (demanded b)) (omega (arith, demands_count b))))
 
   module _ (times : ℕ) (times-are : times ≡ (next_bin (content b)).times) where
     pub ready : Ready (graph_of b) (flow_of b) times
-    ready = record { items = b.count; flowing = flowing; least_is = times-are }
+    ready = record { items = count_of b; flowing = flowing; least_is = times-are }
 
     abbrev left_flow : List ℕ
     left_flow = pull (flow_of b) arcs times
@@ -52,47 +59,36 @@ module _ (b : Core) (k : Kept b) (accepted : b.state ≡ TheVariants.Accepted) (
     gone : Peeled (graph_of b) (flow_of b) arcs times
     gone = subst (λ t. Peeled (graph_of b) (flow_of b) arcs t) (sym times-are) off
 
-    module _ (d : Core) (moved : CellsSet b d left_flow) (counts told rest : List ℕ) (counts-are : told ≡ spelled arcs) (given : counts ≡ told ++ rest) where
-      count_at : (i : ℕ) → i < b.count → get_or counts i 0 ≡ get_or (spelled arcs) i 0
+    module _ (counts told rest : List ℕ) (counts-are : told ≡ spelled arcs) (given : counts ≡ told ++ rest) where
+      count_at : (i : ℕ) → i < count_of b → get_or counts i 0 ≡ get_or (spelled arcs) i 0
       count_at i lt = ap (λ c. get_or c i 0) (given ∙ ap (λ c. c ++ rest) counts-are) ∙ get_or_append_left (spelled arcs) rest 0 i (omega (arith, spelled_long))
 
       -- what an item's record held is what is left and what the bin takes
-      splits : (i : ℕ) → i < b.count → copies_of (graph_of b) left_flow (suc i) + times * get_or counts i 0 ≡ (get_or d.items i no_item).left
+      splits : (i : ℕ) → i < count_of b → copies_of (graph_of b) left_flow (suc i) + times * get_or counts i 0 ≡ (get_or b.items.items i no_item).left
       splits i lt =
           ap (λ c. copies_of (graph_of b) left_flow (suc i) + times * c) (count_at i lt)
           ∙ gone.copies_fall (suc i) (omega arith)
           ∙ sym ((k.settled accepted).left i lt)
-          ∙ ap (λ t. (get_or t i no_item).left) (sym moved.items)
 
-      pub enough : (i : ℕ) → i < d.count → times * get_or counts i 0 ≤ (get_or d.items i no_item).left
-      enough i lt = omega (arith, splits i (omega (arith, moved.count)))
+      pub enough : (i : ℕ) → i < count_of b → times * get_or counts i 0 ≤ (get_or b.items.items i no_item).left
+      enough i lt = omega (arith, splits i lt)
 
-      pub few : d.count ≤ 64
-      few = omega (arith, moved.count, loaded.few)
+      pub room : count_of b ≤ length counts
+      room = omega (arith, ap length given, length-append told rest, ap length counts-are, spelled_long)
 
-      pub table : length d.items ≡ 64
-      table = ap length moved.items ∙ k.table
-
-      pub room : d.count ≤ length counts
-      room = omega (arith, moved.count, ap length given, length-append told rest, ap length counts-are, spelled_long)
-
-      module _ (e : Core) (booked : LeftsSet d e d.count (λ i. (get_or d.items i no_item).left - times * get_or counts i 0)) where
+      module _ (r : MutBor (List ℕ)) (wrote : r.now ≡ left_flow ++ drop (arcs_of b) b.cells.now) (lent : r.ghost_name ≡ b.cells.ghost_name) (t : ArrayVec ItemRecord)
+          (booked : LeftsSet b.items.items t.items (λ i. (get_or b.items.items i no_item).left - times * get_or counts i 0)) where
         holds : Holds b left_flow
         holds = record { arcs = gone.keeps; limited = λ a. omega (arith, pull_less arcs (flow_of b) times a, loaded.limited a) }
 
-        now_left : (i : ℕ) → i < b.count → (get_or e.items i no_item).left ≡ copies_of (graph_of b) left_flow (suc i)
-        now_left i lt = omega (arith, booked.told i (omega (arith, moved.count)), splits i lt)
+        now_left : (i : ℕ) → i < length t.items → (get_or t.items i no_item).left ≡ copies_of (graph_of b) left_flow (suc i)
+        now_left i lt = let l : i < count_of b = omega (arith, booked.long) in omega (arith, booked.told i l, splits i l)
 
-        is_after : after b d.cells e.items b.state ≡ e
-        is_after = sym (λ i. record { rows = (booked.rows ∙ moved.rows) i; cells = booked.cells i; items = e.items; count = (booked.count ∙ moved.count) i; state = (booked.state ∙ moved.state) i })
-
-        pub peel_done : (cells : ℕ) → b.count ≤ cells → Follows b e (Peel cells) (Done (Packed (record { counts = told; times = times })))
+        pub peel_done : (cells : ℕ) → count_of b ≤ cells → Follows b (after b r t b.state) (Peel cells) (Done (Packed (record { counts = told; times = times })))
         peel_done cells le =
-            subst (λ c. Follows b c (Peel cells) (Done (Packed (record { counts = told; times = times })))) is_after
-            (follows b d.cells e.items b.state left_flow holds moved.cells (Peel cells) (Packed (record { counts = told; times = times })) loaded (booked.long ∙ table) moved.lent
-            (λ _. record { balanced = gone.balanced; left = now_left })
-            (demands_same d e d.count _ booked b.count ∙ ap (λ t. demands_of (take b.count t)) moved.items)
+            follows b r t b.state left_flow holds wrote (Peel cells) (Packed (record { counts = told; times = times })) loaded lent
+            (λ _. record { balanced = gone.balanced; left = now_left }) booked.demands
             (when_accepted b (Peel cells) _ _ accepted
             (cond-false _ _ _ (ne_eqb (value (flow_of b)) 0 (λ e. omega (arith, some)))
-            ∙ cond-false _ _ _ (le-ltb cells (length (demanded b)) (omega (arith, demands_count b loaded k.table)))
-            ∙ (λ i. (Done (Packed (record { counts = sym counts-are i; times = sym times-are i })), Accepted (with_flow (content b) (pull (flow_of b) arcs (sym times-are i))))))))
+            ∙ cond-false _ _ _ (le-ltb cells (length (demanded b)) (omega (arith, demands_count b)))
+            ∙ (λ i. (Done (Packed (record { counts = sym counts-are i; times = sym times-are i })), Accepted (with_flow (content b) (pull (flow_of b) arcs (sym times-are i)))))))

@@ -7,11 +7,10 @@ use Rattle.packing.specs.Problem.{Order, items}
 use Rattle.lists.specs.Entries.{entries, spare, SameMemory}
 use Rattle.graph.specs.declared.Row.{Row}
 use Rattle.graph.specs.Compiled.{loads}
-use Rattle.graph.specs.Reduced.{reduced}
 use Rattle.flow.specs.Job.{Call.Compile, Call.Reduce, Fact.Text, Reply, Reply.Nodes, Reply.Told, step}
 use Rattle.flow.specs.Law.{done}
 use Rattle.job.specs.declared.state.Core.{Core}
-use Rattle.job.specs.View.{graph_of, size, view, answered}
+use Rattle.job.specs.View.{size, view, answered}
 use Rattle.job.specs.Sound.{Sound}
 
 -- the reply that tells a number of nodes
@@ -49,17 +48,6 @@ pub record Compiles {L : Type 0} (f : L → List ℕ) (k : Meaning) (orders : Li
   pub step : step (size before) (view before) (Compile k orders (length xs)) ≡ (answered nodes r, view after)
   pub room : SameRoom before after
   pub left : MatchResult r (Filled f (loads k (items k orders)) before after xs ys) (Leaves before after xs ys)
-
--- the nodes of a job joined, n of them left, and the rest as it was
-pub record Joined (before after : Core) (n : ℕ) : Type 0 where
-  pub graph : graph_of after ≡ reduced (graph_of before)
-  pub count : n ≡ length (reduced (graph_of before))
-  pub cells : after.cells ≡ before.cells
-  pub items : after.items ≡ before.items
-  pub item_count : after.count ≡ before.count
-  pub state : after.state ≡ before.state
-  pub memory : SameMemory after.rows before.rows
-  pub capacity : length (row_memory after) ≡ length (row_memory before)
 
 -- Reduce. All cells keep their content; the rows past the new number of nodes may hold anything.
 pub record ReducedSo (before after : Core) (r : Result ℕ Refusal) : Type 0 where

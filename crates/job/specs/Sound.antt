@@ -8,7 +8,7 @@ use Rattle.flow.specs.Job.{limit}
 use Rattle.flow.specs.Scans.{no_item}
 use Rattle.job.specs.declared.state.State.TheVariants.{Empty, Accepted}
 use Rattle.job.specs.declared.state.Core.{Core}
-use Rattle.job.specs.View.{graph_of, flow_of}
+use Rattle.job.specs.View.{graph_of, flow_of, count_of}
 
 -- what holds of the graph of an open or accepted job, with its m items, and of its flow in the first cells
 pub record Stands (m : ℕ) (g : List Row) (cells : List ℕ) : Type 0 where
@@ -20,22 +20,21 @@ pub record Stands (m : ℕ) (g : List Row) (cells : List ℕ) : Type 0 where
   pub absent : (a : ℕ) → head g a ≡ None → on (take (2 * length g) cells) a ≡ 0
   pub limited : (a : ℕ) → on (take (2 * length g) cells) a ≤ limit
 
--- what besides holds of an accepted one: each of the m records tells the flow on the take arcs of its item
-pub record Tells (m : ℕ) (g : List Row) (f : List ℕ) (items : List ItemRecord) : Type 0 where
+-- what besides holds of an accepted one: each record tells the flow on the take arcs of its item
+pub record Tells (g : List Row) (f : List ℕ) (items : List ItemRecord) : Type 0 where
   pub balanced : Balanced g f
-  pub left : (i : ℕ) → i < m → (slice_index_or items i no_item).left ≡ copies_of g f (suc i)
+  pub left : (i : ℕ) → i < length items → (slice_index_or items i no_item).left ≡ copies_of g f (suc i)
 
 -- what holds of a job that is open or accepted
 abbrev pub Loaded : Core → Type 0
-Loaded c = Stands c.count (graph_of c) c.cells.now
+Loaded c = Stands (count_of c) (graph_of c) c.cells.now
 
 -- what besides holds of an accepted job
 abbrev pub Settled : Core → Type 0
-Settled c = Tells c.count (graph_of c) (flow_of c) c.items
+Settled c = Tells (graph_of c) (flow_of c) c.items.items
 
 -- what all calls keep
 pub record Kept (c : Core) : Type 0 where
-  pub table : length c.items ≡ 64
   pub loaded : (c.state ≢ Empty) → Loaded c
   pub settled : c.state ≡ Accepted → Settled c
 

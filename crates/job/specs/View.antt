@@ -27,9 +27,13 @@ arcs_of c = 2 * length (graph_of c)
 abbrev pub flow_of : Core → List ℕ
 flow_of c = take (arcs_of c) c.cells.now
 
+-- the number of items
+abbrev pub count_of : Core → ℕ
+count_of c = length c.items.items
+
 -- the demands of the items
 abbrev pub demanded : Core → List ℕ
-demanded c = demands_of (take c.count c.items)
+demanded c = demands_of c.items.items
 
 -- graph, flow and demands
 abbrev pub content : Core → Content

@@ -7,7 +7,7 @@ ghost use Rattle.graph.specs.Numbering.{CompiledStepped, NumberingFixed};
 ghost use Rattle.flow.specs.Exact.{ModelsExactly};
 ghost use Rattle.flow.specs.Law.{PacksSoundly};
 ghost use Rattle.lp.specs.Reading.{GraphsReadBack};
-ghost use Rattle.job.specs.View.{size, view, answered, plain, worth, packed, node, quantity, phase_of, Asked};
+ghost use Rattle.job.specs.View.{size, view, count_of, answered, plain, worth, packed, node, quantity, phase_of, Asked};
 ghost use Rattle.job.specs.Sound.{Sound};
 ghost use Rattle.job.specs.Contract.{Follows};
 ghost use Rattle.job.specs.Building.{Compiles, ReducedSo, text_in};
@@ -33,7 +33,8 @@ impl<'a> Job<'a> {
         ensures size { size result.core ≡ min (min (length rows.old) (length cells.old / 2)) 65535 }
         ensures rows { spare result.core.rows ≡ rows.old }
         ensures cells { result.core.cells.now ≡ cells.old }
-        ensures lent { (result.core.rows.cells.ghost_name ≡ rows.entry.ghost_name) × (result.core.cells.ghost_name ≡ cells.entry.ghost_name) }
+        ensures lent_rows { result.core.rows.cells.ghost_name ≡ rows.entry.ghost_name }
+        ensures lent_cells { result.core.cells.ghost_name ≡ cells.entry.ghost_name }
         ensures law { PacksSoundly }
     {
         Job {
@@ -92,7 +93,8 @@ impl<'a> Job<'a> {
     ) -> Result<usize, Refusal>
         ensures compiled { Compiles K.amount (K.meaning kind.now) (orders_of items.now) self.old.core self.new.core loads.old loads.new result }
         ensures spells { SpellsPatterns }
-        ensures numbered { CompiledStepped × NumberingFixed }
+        ensures numbered { CompiledStepped }
+        ensures fixed { NumberingFixed }
     {
         self.core.compile(kind, items, loads)
     }
@@ -148,8 +150,8 @@ impl<'a> Job<'a> {
 
     // Takes the next bin off the flow: its times, with its counts in the first cells given, one for each item.
     pub fn peel(&mut self, counts: &mut [u32]) -> Result<u32, Refusal>
-        ensures step { Follows self.old.core self.new.core (Call.Peel (length counts.old)) (answered (packed (take self.old.core.count counts.new)) result) }
-        ensures rest { drop self.old.core.count counts.new ≡ drop self.old.core.count counts.old }
+        ensures step { Follows self.old.core self.new.core (Call.Peel (length counts.old)) (answered (packed (take (count_of self.old.core) counts.new)) result) }
+        ensures rest { drop (count_of self.old.core) counts.new ≡ drop (count_of self.old.core) counts.old }
         ensures refused { is_ok result ≡ false → counts.new ≡ counts.old }
     {
         self.core.peel(counts)

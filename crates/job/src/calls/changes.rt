@@ -7,7 +7,9 @@ ghost use Rattle.job.specs.Sound.{Sound};
 ghost use Rattle.job.specs.Contract.{Follows};
 
 use crate::state::{Core, State};
-use flow::{ItemRecord, LIMIT, scans, walks};
+use arrayvec::ArrayVec;
+use flow::LIMIT;
+use flow::walks::{target_of, wipe};
 use graph::Row;
 use lists::list::List;
 use refusal::Refusal;
@@ -20,13 +22,13 @@ impl<'a> Core<'a> {
         ensures size { size result ≡ min (min (length rows.old) (length cells.old / 2)) 65535 }
         ensures rows { spare result.rows ≡ rows.old }
         ensures cells { result.cells.now ≡ cells.old }
-        ensures lent { (result.rows.cells.ghost_name ≡ rows.entry.ghost_name) × (result.cells.ghost_name ≡ cells.entry.ghost_name) }
+        ensures lent_rows { result.rows.cells.ghost_name ≡ rows.entry.ghost_name }
+        ensures lent_cells { result.cells.ghost_name ≡ cells.entry.ghost_name }
     {
         Core {
             rows: List::over(rows),
             cells,
-            items: [ItemRecord { demand: 0, left: 0 }; 64],
-            count: 0,
+            items: ArrayVec::new(),
             state: State::Empty,
         }
     }
@@ -36,11 +38,8 @@ impl<'a> Core<'a> {
         requires { Sound self.old }
         ensures { Follows self.old self.new Call.Clear (answered plain result) }
     {
-        if let State::Empty = self.state {
-            return Err(Refusal::WrongState);
-        }
-        let arcs = 2 * self.rows.len();
-        walks::wipe(&mut *self.cells, arcs);
+        self.expect_loaded()?;
+        wipe(&mut *self.cells, 2 * self.rows.len());
         self.state = State::Open;
         Ok(())
     }
@@ -50,12 +49,8 @@ impl<'a> Core<'a> {
         requires { Sound self.old }
         ensures { Follows self.old self.new (Call.Carry arc flow) (answered plain result) }
     {
-        let State::Open = self.state else {
-            return Err(Refusal::WrongState);
-        };
-        let Some(_) = scans::target_of(&self.rows, arc) else {
-            return Err(Refusal::Absent { number: arc });
-        };
+        self.expect(State::Open)?;
+        target_of(self.rows.as_slice(), arc).ok_or(Refusal::Absent { number: arc })?;
         if flow > LIMIT {
             return Err(Refusal::FlowOutOfRange);
         }

@@ -1,37 +1,32 @@
 // Compile: the graph of the items in place of the job's.
-ghost use Rattle.std.specs.Prelude.{◌≡◌, ◌<◌, ◌≤◌, length};
+ghost use Rattle.std.specs.Prelude.{◌≤◌, length};
 ghost use Rattle.packing.specs.Given.{orders_of};
 ghost use Rattle.packing.specs.Problem.{demands};
 ghost use Rattle.job.specs.Sound.{Sound};
-ghost use Rattle.job.specs.Changes.{ItemSet, ItemsSet};
+ghost use Rattle.job.specs.Changes.{ItemsSet};
 ghost use Rattle.job.specs.Building.{Compiles};
 
 use crate::state::{Core, State};
 use compile::check_items;
-use flow::{ItemRecord, walks};
+use flow::ItemRecord;
+use flow::walks::wipe;
 use limits::kind::Kind;
 use packing::Item;
 use refusal::Refusal;
 
 impl<'a> Core<'a> {
-    // Writes the record of one item, of which no copies are left.
-    fn set_item(&mut self, at: usize, demand: u32)
-        requires { at < 64 }
-        ensures { ItemSet self.old self.new at demand }
-    {
-        self.items[at] = ItemRecord { demand, left: 0 };
-    }
-
-    // Takes over the demands of the items.
+    // Takes over the demands of the items, with no copies left.
     fn set_items(&mut self, items: &[Item<'_>])
-        requires table { length self.old.items ≡ 64 }
-        requires few { length items.now ≤ 64 }
+        requires { length items.now ≤ 64 }
         ensures { ItemsSet self.old self.new (demands (orders_of items.now)) }
     {
-        for i in 0..items.len() {
-            self.set_item(i, items[i].demand);
+        self.items.clear();
+        for item in items {
+            self.items.push(ItemRecord {
+                demand: item.demand,
+                left: 0,
+            });
         }
-        self.count = items.len();
     }
 
     // Opens the job with the graph of the items and no flow, and answers the number of nodes. The load of node n then lies at
@@ -51,7 +46,7 @@ impl<'a> Core<'a> {
             self.state = State::Empty;
             return Err(Refusal::TooManyNodes);
         };
-        walks::wipe(&mut *self.cells, 2 * nodes);
+        wipe(&mut *self.cells, 2 * nodes);
         self.set_items(items);
         self.state = State::Open;
         Ok(nodes)

@@ -6,7 +6,7 @@ ghost use Rattle.job.specs.View.{size, flow_of, answered, node, quantity, Asked}
 ghost use Rattle.job.specs.Sound.{Sound, Loaded};
 
 use crate::state::{Core, State};
-use flow::scans;
+use flow::walks::target_of;
 use graph::Row;
 use refusal::Refusal;
 
@@ -15,7 +15,7 @@ impl<'a> Core<'a> {
     pub(crate) fn size(&self) -> usize
         ensures { result ≡ size self.now }
     {
-        self.rows.capacity().min(self.cells.len() / 2).min(65535)
+        self.rows.capacity().min(self.cells.len() / 2).min(65_535)
     }
 
     // The row of a node.
@@ -23,13 +23,10 @@ impl<'a> Core<'a> {
         requires { Sound self.now }
         ensures { Asked self.now (Question.RowOf number) (answered node result) }
     {
-        if let State::Empty = self.state {
-            return Err(Refusal::WrongState);
-        }
-        let Some(row) = self.rows.get(number as usize) else {
-            return Err(Refusal::Absent { number });
-        };
-        Ok(row)
+        self.expect_loaded()?;
+        self.rows
+            .get(number as usize)
+            .ok_or(Refusal::Absent { number })
     }
 
     // The flow of an arc.
@@ -37,12 +34,8 @@ impl<'a> Core<'a> {
         requires { Sound self.now }
         ensures { Asked self.now (Question.FlowOf arc) (answered quantity result) }
     {
-        if let State::Empty = self.state {
-            return Err(Refusal::WrongState);
-        }
-        let Some(_) = scans::target_of(&self.rows, arc) else {
-            return Err(Refusal::Absent { number: arc });
-        };
+        self.expect_loaded()?;
+        target_of(self.rows.as_slice(), arc).ok_or(Refusal::Absent { number: arc })?;
         Ok(self.cells[arc as usize])
     }
 
@@ -59,9 +52,7 @@ impl<'a> Core<'a> {
         requires { Sound self.now }
         ensures { Asked self.now Question.ValueLeft (answered quantity result) }
     {
-        let State::Accepted = self.state else {
-            return Err(Refusal::WrongState);
-        };
+        self.expect(State::Accepted)?;
         Ok(self.value())
     }
 
@@ -70,12 +61,10 @@ impl<'a> Core<'a> {
         requires { Sound self.now }
         ensures { Asked self.now (Question.CopiesLeft item) (answered quantity result) }
     {
-        let State::Accepted = self.state else {
-            return Err(Refusal::WrongState);
-        };
-        if item == 0 || item as usize > self.count {
+        self.expect(State::Accepted)?;
+        if item == 0 || item as usize > self.items.len() {
             return Err(Refusal::Absent { number: item });
         }
-        Ok(self.items[item as usize - 1].left)
+        Ok(self.items.as_slice()[item as usize - 1].left)
     }
 }

@@ -1,43 +1,39 @@
 // The model text of the job's graph and demands.
 ghost use Rattle.std.specs.Prelude.{◌≡◌, ◌≤◌, length, take, drop, MatchResult};
 ghost use Rattle.flow.specs.Job.{Question};
-ghost use Rattle.job.specs.View.{demanded, answered, Asked};
+ghost use Rattle.flow.specs.Scans.{demands_of};
+ghost use Rattle.job.specs.View.{answered, Asked};
 ghost use Rattle.job.specs.Sound.{Sound};
 ghost use Rattle.job.specs.Building.{text_in};
 
-use crate::state::{Core, State};
+use crate::state::Core;
+use flow::ItemRecord;
 use lp::render;
 use packing::MAX_ITEMS;
 use refusal::Refusal;
 
-impl<'a> Core<'a> {
-    // The demands of the items, before zeros.
-    fn demands(&self) -> [u32; MAX_ITEMS]
-        requires table { length self.now.items ≡ 64 }
-        requires few { self.now.count ≤ 64 }
-        ensures demands { take self.now.count result ≡ demanded self.now }
-        ensures long { length result ≡ 64 }
-    {
-        let mut demands = [0; MAX_ITEMS];
-        for i in 0..self.count {
-            demands[i] = self.items[i].demand;
-        }
-        demands
+// The demands of the items, before zeros.
+fn demands_in(items: &[ItemRecord]) -> [u32; MAX_ITEMS]
+    requires { length items.now ≤ 64 }
+    ensures { take (length items.now) result ≡ demands_of items.now }
+{
+    let mut demands = [0; MAX_ITEMS];
+    for (place, item) in items.iter().enumerate() {
+        demands[place] = item.demand;
     }
+    demands
+}
 
+impl<'a> Core<'a> {
     // Writes the model text at the start of the memory, and answers its length.
     pub(crate) fn model_text(&self, out: &mut [u8]) -> Result<usize, Refusal>
         requires { Sound self.now }
         ensures step { Asked self.now (Question.ModelText (length out.old)) (answered (text_in out.new) result) }
         ensures past { MatchResult result (λ n. drop n out.new ≡ drop n out.old) (λ _. out.new ≡ out.old) }
     {
-        if let State::Empty = self.state {
-            return Err(Refusal::WrongState);
-        }
-        let demands = self.demands();
-        match render::model_text(self.rows.as_slice(), &demands[..self.count], out) {
-            Some(length) => Ok(length),
-            None => Err(Refusal::TooLittleMemory),
-        }
+        self.expect_loaded()?;
+        let memory = demands_in(self.items.as_slice());
+        let demands = &memory[..self.items.len()];
+        render::model_text(self.rows.as_slice(), demands, out).ok_or(Refusal::TooLittleMemory)
     }
 }

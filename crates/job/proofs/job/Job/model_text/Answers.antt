@@ -2,5 +2,8 @@ use Rattle.flow.proofs.Exact.{models_exactly}
 use Rattle.lp.proofs.Bounds.{graphs_read_back}
 use Rattle.job.proofs.job.Job.model_text.Goals as goal
 
-pub returns : goal.returns
-returns c = record { step = c.model_text.ensures.step; past = c.model_text.ensures.past; exact = models_exactly; legible = graphs_read_back }
+pub returns-clause-exact : goal.returns-clause-exact
+returns-clause-exact c = models_exactly
+
+pub returns-clause-legible : goal.returns-clause-legible
+returns-clause-legible c = graphs_read_back

@@ -2,5 +2,8 @@ use Rattle.graph.proofs.Reduce.{reduces}
 use Rattle.graph.proofs.OneReduction.{joins_fix}
 use Rattle.job.proofs.job.Job.reduce.Goals as goal
 
-pub returns : goal.returns
-returns c = record { reduced = c.reduce.ensures; keeps = reduces; joined = joins_fix }
+pub returns-clause-keeps : goal.returns-clause-keeps
+returns-clause-keeps c = reduces
+
+pub returns-clause-joined : goal.returns-clause-joined
+returns-clause-joined c = joins_fix

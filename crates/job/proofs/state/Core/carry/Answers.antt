@@ -1,5 +1,6 @@
-use Rattle.std.proofs.Common.{not, is_some, sym, refl, ap, ◌∙◌, arith}
+use Rattle.std.proofs.Common.{not, is_some, refl, sym, ap, ◌∙◌, arith}
 use Rattle.std.proofs.lemmas.Bool.{cond-false, le-ltb}
+use Rattle.graph.specs.Graph.{head}
 use Rattle.flow.specs.Job.{limit, Call.Carry, Reply.Plain}
 use Rattle.flow.proofs.Scanning.{arc_within}
 use Rattle.job.specs.View.{graph_of}
@@ -10,16 +11,17 @@ use Rattle.job.proofs.state.Core.carry.Goals as goal
 pub bounds-self-arc : goal.bounds-self-arc
 bounds-self-arc c =
     let b = c.args.self.now in
-    let l = (kept b c.requires).loaded (open_loaded b.state c.in-Open.is) in
-    omega (arith, l.room, arc_within (graph_of b) c.args.arc c.in-Some.field-0 (sym c.in-Some.ensures))
+    let l = (kept b c.requires).loaded (open_loaded b.state (c.in_ok-expect.ensures.ok.0 refl)) in
+    let e = ap (λ g. head g c.args.arc) (sym c.as_slice.ensures) ∙ sym c.target_of.ensures ∙ c.in_ok-ok_or.ensures.ok_part in
+    omega (arith, l.room, arc_within (graph_of b) c.args.arc c.in_ok-ok_or.field-0 e)
 
 pub returns : goal.returns
 returns c =
     let b = c.args.self.now in
-    let k = kept b c.requires in
-    let l = k.loaded (open_loaded b.state c.in-Open.is) in
+    let opened = c.in_ok-expect.ensures.ok.0 refl in
+    let l = (kept b c.requires).loaded (open_loaded b.state opened) in
     let h = holds_now b l in
-    let e = sym c.in-Some.ensures in
-    follows b _ b.items b.state _ (holds_set b h c.args.arc c.in-Some.field-0 c.args.flow e c.if-flow-gt-LIMIT.false) (wrote_set b h c.args.arc c.in-Some.field-0 c.args.flow e)
-    (Carry c.args.arc c.args.flow) Plain l k.table refl (λ a. absurd (open_unsettled b.state c.in-Open.is a)) refl
-    (when_open b (Carry c.args.arc c.args.flow) _ _ c.in-Open.is (cond-false _ _ _ (ap (λ o. not (is_some o)) e) ∙ cond-false _ _ _ (le-ltb limit c.args.flow c.if-flow-gt-LIMIT.false)))
+    let e = ap (λ g. head g c.args.arc) (sym c.as_slice.ensures) ∙ sym c.target_of.ensures ∙ c.in_ok-ok_or.ensures.ok_part in
+    follows b _ b.items b.state _ (holds_set b h c.args.arc c.in_ok-ok_or.field-0 c.args.flow e c.if-flow-gt-LIMIT.false) (wrote_set b h c.args.arc c.in_ok-ok_or.field-0 c.args.flow e)
+    (Carry c.args.arc c.args.flow) Plain l refl (λ a. absurd (open_unsettled b.state opened a)) refl
+    (when_open b (Carry c.args.arc c.args.flow) _ _ opened (cond-false _ _ _ (ap (λ o. not (is_some o)) e) ∙ cond-false _ _ _ (le-ltb limit c.args.flow c.if-flow-gt-LIMIT.false)))

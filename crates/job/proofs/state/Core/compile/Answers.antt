@@ -1,7 +1,7 @@
 use Rattle.std.proofs.Common.{◌++◌, drop, refl}
 use Rattle.packing.specs.Given.{orders_of}
 use Rattle.packing.specs.Problem.{flaw}
-use Rattle.compile.proofs.Orders.{passed, few_items}
+use Rattle.compile.proofs.Orders.{passed}
 use Rattle.job.proofs.Facts.{kept}
 use Rattle.job.proofs.Compiling.{too_many, compiles}
 use Rattle.job.proofs.state.Core.compile.Goals as goal
@@ -16,12 +16,6 @@ returns-in_default g c =
     let told = c.in_default.ensures in
     too_many g.K.Kind.amount k its b xs fine c.size.result c.min-room.result c.size.ensures c.min-room.ensures (kept b c.requires) c.compile.new.rows told.room told.memory
     (c.compile.new.memory ++ drop c.min-room.result xs) told.compiles
-
-pub set_items-requires : goal.set_items-requires
-set_items-requires g c =
-    let k = g.K.Kind.meaning c.args.kind.now in
-    let its = c.args.items.now in
-    record { table = (kept c.args.self.now c.requires).table; few = few_items k its (passed (flaw k (orders_of its)) c.in_ok-check_items.ensures) }
 
 pub returns : goal.returns
 returns g c =

@@ -1,69 +1,69 @@
-use Rattle.std.proofs.Common.{◌≡◌, ◌<◌, ◌++◌, length, drop, sym, refl, ap, ◌∙◌, subst, arith}
+use Rattle.std.proofs.Common.{◌≡◌, ◌-◌, ◌*◌, ◌<◌, ◌≤◌, ◌++◌, length, get_or, take, drop, refl, sym, ap, ◌∙◌, subst, arith}
 use Rattle.std.proofs.lemmas.List.{length-take-le, take_at, drop_at}
 use Rattle.std.proofs.lemmas.Bool.{true≢false}
-use Rattle.flow.specs.Flow.{value}
-use Rattle.flow.specs.Job.{Call.Peel, Answer.Done}
-use Rattle.flow.specs.Walks.{Flowing}
-use Rattle.job.specs.View.{graph_of, flow_of, packed}
-use Rattle.job.specs.Contract.{Follows}
+use Rattle.graph.specs.Graph.{spelled}
+use Rattle.flow.specs.Flow.{value, least, pull, trail}
+use Rattle.flow.specs.Job.{next_bin, next_arcs}
+use Rattle.flow.specs.Scans.{no_item}
+use Rattle.flow.specs.Walks.{Ready}
+use Rattle.job.specs.View.{flow_of, count_of, content}
 use Rattle.job.proofs.Facts.{kept, accepted_loaded}
-use Rattle.job.proofs.Follow.{refuses}
-use Rattle.job.proofs.Peels.{loaded, flowing, spelled_long, no_room, ready, enough, few, table, room, peel_done}
+use Rattle.job.proofs.Peels.{flowing_at, spelled_long, ready, enough, peel_done}
+use Rattle.job.proofs.Records.{retold}
 use Rattle.job.proofs.state.Core.peel.Goals as goal
 
 pub value-requires : goal.value-requires
-value-requires c = let b = c.args.self.now in (kept b c.requires).loaded (accepted_loaded b.state c.in-Accepted.is)
+value-requires c = let b = c.args.self.now in (kept b c.requires).loaded (accepted_loaded b.state (c.in_ok-expect.ensures.ok.0 refl))
 
-pub returns-then-counts-count : goal.returns-then-counts-count
-returns-then-counts-count c =
-    let b = c.args.self.now in
-    let some : 0 < value (flow_of b) = omega (arith, c.value.ensures, c.if-value-eq0.false) in
-    record { step = refuses b _ _ c.requires (no_room b (kept b c.requires) c.in-Accepted.is some _ c.if-counts-count.true); rest = refl; refused = λ _. refl }
+pub flow-requires : goal.flow-requires
+flow-requires c = let b = c.args.self.now in (kept b c.requires).loaded (accepted_loaded b.state (c.in_ok-expect.ensures.ok.0 refl))
 
 pub spell_next-times-requires : goal.spell_next-times-requires
 spell_next-times-requires c =
     let b = c.args.self.now in
-    let k = kept b c.requires in
     let some : 0 < value (flow_of b) = omega (arith, c.value.ensures, c.if-value-eq0.false) in
-    record {
-      loaded = loaded b k c.in-Accepted.is some;
-      flowing = subst (λ m. Flowing m (graph_of b) (flow_of b)) (sym (length-take-le b.count c.args.counts.now c.if-counts-count.false)) (flowing b k c.in-Accepted.is some);
-    }
+    flowing_at b (kept b c.requires) (c.in_ok-expect.ensures.ok.0 refl) some _ _ _ (length-take-le c.len-count.result c.args.counts.now c.if-counts-count.false ∙ c.len-count.ensures.value) c.flow.ensures.rows c.flow.ensures.arcs
 
-pub take_off-requires : goal.take_off-requires
-take_off-requires c =
+pub take_off-requires-clause-ready : goal.take_off-requires-clause-ready
+take_off-requires-clause-ready c =
     let b = c.args.self.now in
-    let k = kept b c.requires in
-    let some : 0 < value (flow_of b) = omega (arith, c.value.ensures, c.if-value-eq0.false) in
-    record { loaded = loaded b k c.in-Accepted.is some; ready = ready b k c.in-Accepted.is some c.spell_next-times.result c.spell_next-times.ensures.times }
-
-pub book-requires : goal.book-requires
-book-requires c =
-    let b = c.args.self.now in
-    let k = kept b c.requires in
     let some : 0 < value (flow_of b) = omega (arith, c.value.ensures, c.if-value-eq0.false) in
     let t = c.spell_next-times.result in
-    let counts = c.spell_next-times.new.counts ++ drop b.count c.args.counts.now in
-    record {
-      few = few b k c.in-Accepted.is some t c.spell_next-times.ensures.times c.take_off.new.self c.take_off.ensures counts _ _ c.spell_next-times.ensures.counts refl;
-      table = table b k c.in-Accepted.is some t c.spell_next-times.ensures.times c.take_off.new.self c.take_off.ensures counts _ _ c.spell_next-times.ensures.counts refl;
-      room = room b k c.in-Accepted.is some t c.spell_next-times.ensures.times c.take_off.new.self c.take_off.ensures counts _ _ c.spell_next-times.ensures.counts refl;
-      enough = enough b k c.in-Accepted.is some t c.spell_next-times.ensures.times c.take_off.new.self c.take_off.ensures counts _ _ c.spell_next-times.ensures.counts refl;
-    }
+    let times : t ≡ (next_bin (content b)).times = c.spell_next-times.ensures.times ∙ (λ i. least (c.flow.ensures.arcs i) (trail (length (c.flow.ensures.rows i)) (c.flow.ensures.rows i) (c.flow.ensures.arcs i) 0)) in
+    subst (λ g. Ready g (take (2 * length g) b.cells.now) t) (sym c.as_slice-rows.ensures) (ready b (kept b c.requires) (c.in_ok-expect.ensures.ok.0 refl) some t times)
+
+pub book-requires-clause-enough : goal.book-requires-clause-enough
+book-requires-clause-enough c =
+    let b = c.args.self.now in
+    let some : 0 < value (flow_of b) = omega (arith, c.value.ensures, c.if-value-eq0.false) in
+    let t = c.spell_next-times.result in
+    let counts = c.spell_next-times.new.counts ++ drop c.len-count.result c.args.counts.now in
+    let times : t ≡ (next_bin (content b)).times = c.spell_next-times.ensures.times ∙ (λ i. least (c.flow.ensures.arcs i) (trail (length (c.flow.ensures.rows i)) (c.flow.ensures.rows i) (c.flow.ensures.arcs i) 0)) in
+    let told : c.spell_next-times.new.counts ≡ spelled (next_arcs (content b)) = c.spell_next-times.ensures.counts ∙ (λ i. spelled (trail (length (c.flow.ensures.rows i)) (c.flow.ensures.rows i) (c.flow.ensures.arcs i) 0)) in
+    λ i lt. subst (λ xs. t * get_or counts i 0 ≤ (get_or xs i no_item).left) (sym c.as_mut_slice.ensures.value)
+    (enough b (kept b c.requires) (c.in_ok-expect.ensures.ok.0 refl) some t times counts _ _ told refl i (let l : i < count_of b = omega (arith, ap length c.as_mut_slice.ensures.value) in l))
 
 pub returns : goal.returns
 returns c =
     let b = c.args.self.now in
     let k = kept b c.requires in
+    let accepted = c.in_ok-expect.ensures.ok.0 refl in
     let some : 0 < value (flow_of b) = omega (arith, c.value.ensures, c.if-value-eq0.false) in
     let t = c.spell_next-times.result in
     let told = c.spell_next-times.new.counts in
-    let past = drop b.count c.args.counts.now in
-    let long : length told ≡ b.count = ap length c.spell_next-times.ensures.counts ∙ spelled_long b k c.in-Accepted.is some in
+    let past = drop c.len-count.result c.args.counts.now in
+    let times : t ≡ (next_bin (content b)).times = c.spell_next-times.ensures.times ∙ (λ i. least (c.flow.ensures.arcs i) (trail (length (c.flow.ensures.rows i)) (c.flow.ensures.rows i) (c.flow.ensures.arcs i) 0)) in
+    let is : told ≡ spelled (next_arcs (content b)) = c.spell_next-times.ensures.counts ∙ (λ i. spelled (trail (length (c.flow.ensures.rows i)) (c.flow.ensures.rows i) (c.flow.ensures.arcs i) 0)) in
+    let long : length told ≡ count_of b = ap length is ∙ spelled_long b k accepted some in
+    let cells = b.cells.now in
     record {
       step =
-          subst (λ x. Follows b c.book.new.self (Peel (length c.args.counts.now)) (Done (packed x t))) (sym (take_at told past b.count long))
-          (peel_done b k c.in-Accepted.is some t c.spell_next-times.ensures.times c.take_off.new.self c.take_off.ensures (told ++ past) _ _ c.spell_next-times.ensures.counts refl c.book.new.self c.book.ensures _ c.if-counts-count.false);
-      rest = drop_at told past b.count long;
+          rw (take_at told past (count_of b) long)
+          (peel_done b k accepted some t times (told ++ past) told past is refl _
+          (ap (λ f. f ++ drop (2 * length c.as_slice-rows.result.now) cells) c.take_off.ensures
+          ∙ ap (λ g. pull (take (2 * length g) cells) (trail (length g) g (take (2 * length g) cells) 0) t ++ drop (2 * length g) cells) c.as_slice-rows.ensures)
+          refl _ (retold b.items (λ xs i. (get_or xs i no_item).left - t * get_or (told ++ past) i 0) _ _ c.as_mut_slice.ensures.value c.book.ensures)
+          (length c.args.counts.now) (omega (arith, c.len-count.ensures.value, c.if-counts-count.false)));
+      rest = drop_at told past (count_of b) long ∙ ap (λ m. drop m c.args.counts.now) c.len-count.ensures.value;
       refused = λ e. absurd (true≢false e);
     }

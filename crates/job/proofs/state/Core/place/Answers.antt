@@ -1,39 +1,32 @@
-use Rattle.std.proofs.Common.{Err, sym, ap, ◌∙◌, subst}
-use Rattle.std.proofs.lemmas.Result.{err_from_is_err_and}
-use Rattle.flow.specs.Job.{Call.Place}
-use Rattle.job.specs.View.{answered, plain}
-use Rattle.job.specs.Contract.{Follows}
+use Rattle.std.proofs.Common.{◌*◌, ◌++◌, false, length, take, drop, refl, ap, ◌∙◌}
+use Rattle.graph.specs.Graph.{walk}
+use Rattle.flow.specs.Flow.{push}
+use Rattle.flow.specs.Walks.{verdict, arcs_along}
 use Rattle.job.proofs.Facts.{kept, open_loaded}
-use Rattle.job.proofs.Follow.{refuses}
-use Rattle.job.proofs.Places.{place_other, place_refused, place_done}
+use Rattle.job.proofs.Places.{placeable, place_done}
 use Rattle.job.proofs.state.Core.place.Goals as goal
 
-pub returns-then-counts-self : goal.returns-then-counts-self
-returns-then-counts-self c =
-    let b = c.args.self.now in
-    refuses b _ _ c.requires (place_other b c.args.counts.now c.args.times (kept b c.requires) c.in-Open.is c.if-times-eq0.false c.if-times-gt-LIMIT.false c.if-counts-self.true)
+pub flow-requires : goal.flow-requires
+flow-requires c = let b = c.args.self.now in (kept b c.requires).loaded (open_loaded b.state (c.in_ok-expect.ensures.ok.0 refl))
 
 pub check_route-requires : goal.check_route-requires
 check_route-requires c =
     let b = c.args.self.now in
-    record { loaded = (kept b c.requires).loaded (open_loaded b.state c.in-Open.is); count = c.if-counts-self.false; few = c.if-times-gt-LIMIT.false }
+    placeable b _ c.args.counts.now c.args.times ((kept b c.requires).loaded (open_loaded b.state (c.in_ok-expect.ensures.ok.0 refl))) c.flow.ensures.rows (c.if-counts-len.false ∙ c.len.ensures.value) c.if-times-gt-LIMIT.false
 
-pub add_route-requires : goal.add_route-requires
-add_route-requires c =
+pub add_route-requires-clause-placeable : goal.add_route-requires-clause-placeable
+add_route-requires-clause-placeable c =
     let b = c.args.self.now in
-    record { loaded = (kept b c.requires).loaded (open_loaded b.state c.in-Open.is); count = c.if-counts-self.false; fits = c.in_ok-check_route.ensures }
+    placeable b _ c.args.counts.now c.args.times ((kept b c.requires).loaded (open_loaded b.state (c.in_ok-expect.ensures.ok.0 refl))) c.as_slice-rows.ensures (c.if-counts-len.false ∙ c.len.ensures.value) c.if-times-gt-LIMIT.false
 
 pub returns : goal.returns
 returns c =
     let b = c.args.self.now in
-    place_done b c.args.counts.now c.args.times (kept b c.requires) c.in-Open.is c.if-times-eq0.false c.if-times-gt-LIMIT.false c.if-counts-self.false c.add_route.new.self c.in_ok-check_route.ensures c.add_route.ensures
-
-pub returns-in_err-check_route : goal.returns-in_err-check_route
-returns-in_err-check_route c =
-    let b = c.args.self.now in
-    let call = Place c.args.counts.now c.args.times in
-    let broke = err_from_is_err_and c.from_residual.result c.from_residual.ensures.1 in
-    subst (λ r. Follows b b call (answered plain r)) (sym broke.1)
-    (refuses b call broke.0 c.requires
-    (place_refused b c.args.counts.now c.args.times (kept b c.requires) c.in-Open.is c.if-times-eq0.false c.if-times-gt-LIMIT.false c.if-counts-self.false broke.0
-    (ap (λ e. Err e) broke.2 ∙ c.in_err-check_route.ensures)))
+    let counts = c.args.counts.now in
+    let times = c.args.times in
+    let cells = b.cells.now in
+    place_done b counts times (kept b c.requires) (c.in_ok-expect.ensures.ok.0 refl) c.if-times-eq0.false c.if-times-gt-LIMIT.false (c.if-counts-len.false ∙ c.len.ensures.value) _
+    (c.in_ok-check_route.ensures ∙ (λ i. verdict (c.flow.ensures.arcs i) times false (walk (c.flow.ensures.rows i) counts 0)))
+    (ap (λ f. f ++ drop (2 * length c.as_slice-rows.result.now) cells) c.add_route.ensures
+    ∙ ap (λ g. push (take (2 * length g) cells) (arcs_along (walk g counts 0)) times ++ drop (2 * length g) cells) c.as_slice-rows.ensures)
+    refl

@@ -1,7 +1,8 @@
+use Rattle.std.proofs.Common.{take}
 use Rattle.packing.specs.Given.{orders_of}
 use Rattle.packing.specs.Problem.{demands}
-use Rattle.job.proofs.Compiling.{FrontSet}
+use Rattle.job.specs.Changes.{ItemsSet}
 use Rattle.job.proofs.state.Core.set_items.Given as goal
 
-abbrev pub invariant-loop-i : goal.invariant-loop-i
-invariant-loop-i l = FrontSet l.initial.self l.self (demands (orders_of l.items)) l.i
+abbrev pub invariant-loop-item : goal.invariant-loop-item
+invariant-loop-item l = ItemsSet l.initial.self l.self (take l.item-index (demands (orders_of l.items)))
