@@ -25,15 +25,6 @@ module _ (g : List Row) (f : List ℕ) where
   pub none_in : Inflows g f 0 (replicate 65535 0)
   none_in = record { long = length-replicate {A = ℕ} 65535 0; told = λ v lt. get_or-replicate 65535 v 0 0 lt }
 
-  -- an arc that is not there brings nothing
-  pub in_none : (a : ℕ) (xs : List ℕ) → Inflows g f a xs → None ≡ head g a → Inflows g f (a + 1) xs
-  in_none a xs h none = record {
-    long = h.long;
-    told = λ v lt.
-        let off : cond (is (head g a) v) (on f a) 0 ≡ 0 = ap (λ o. cond (is o v) (on f a) 0) (sym none) in
-        omega (arith, h.told v lt, carried_more f (λ b. is (head g b) v) a, off);
-  }
-
   -- an arc that is there brings its flow to where it leads
   pub in_some : (a k : ℕ) (xs : List ℕ) → Inflows g f a xs → Some k ≡ head g a → k < 65535 → Inflows g f (a + 1) (set xs k (get_or xs k 0 + on f a))
   in_some a k xs h leads low = record {

@@ -1,7 +1,7 @@
 -- The steps of the walk along a path that spells some counts.
-use Rattle.std.proofs.Common.{◌≡◌, ℕ, zero, suc, ◌+◌, ◌-◌, ◌*◌, ◌/◌, ◌<◌, ◌≤◌, Bool, true, false, cond, ◌||◌, ltb, leb, ◌≢◌, ◌⊎◌, List, [], ◌∷◌, length, get_or, drop, set, Some, None, Ok, Err, Option, Result, sym, refl, ap, ◌∙◌, inl, inr, ⊎_elim, add-one, arith, length-set}
+use Rattle.std.proofs.Common.{◌≡◌, ℕ, suc, ◌+◌, ◌-◌, ◌*◌, ◌/◌, ◌<◌, ◌≤◌, Bool, true, false, cond, ◌||◌, ltb, leb, ◌≢◌, ◌⊎◌, List, [], ◌∷◌, length, get_or, drop, set, Some, None, Ok, Err, Option, Result, sym, refl, ap, ◌∙◌, inl, inr, ⊎_elim, add-one, arith, length-set}
 use Rattle.std.specs.Option.{option_map}
-use Rattle.std.proofs.lemmas.List.{get_or-set_same, get_or-set_other, set_past, drop_more, drop_all, get_or_past}
+use Rattle.std.proofs.lemmas.List.{get_or-set_same, get_or-set_other, set_past, drop_more, drop_all}
 use Rattle.std.proofs.lemmas.Bool.{cases_Bool, cases_eq, cases_lt, cond-true, cond-false, ltb-true, ltb-false, lt-ltb, le-ltb, le-leb, lt-leb, eq-eqb, or_parts}
 use Rattle.refusal.specs.declared.Refusal.{Refusal}
 use Rattle.refusal.specs.declared.Refusal.TheVariants.{NoPattern, ArcOverLimit}
@@ -10,7 +10,7 @@ use Rattle.packing.proofs.Options.{some≢none}
 use Rattle.graph.specs.declared.Row.{Row}
 use Rattle.graph.specs.Graph.{at, take_arc, pass_arc, head, onward, walk}
 use Rattle.flow.specs.Flow.{on, push}
-use Rattle.flow.specs.Job.{limit, Content, View.Open, overflows, place_on, refuse}
+use Rattle.flow.specs.Job.{limit, overflows}
 use Rattle.flow.specs.Walks.{choice, verdict, arcs_along}
 use Rattle.flow.proofs.Shape.{Forward}
 use Rattle.flow.proofs.Inflow.{upward}
@@ -20,16 +20,6 @@ use Rattle.flow.proofs.Paths.{head_pass, head_take}
 -- what is still to be spelled at a node
 abbrev pub ahead : List ℕ → Row → List ℕ
 ahead counts r = cond (leb r.item (length counts)) ((entry counts r.item - r.copies) ∷ drop r.item counts) []
-
--- past the counts an item is not asked for
-pub none_wanted : (counts : List ℕ) (item : ℕ) → (item ≡ 0) ⊎ (length counts < item) → 0 ≡ entry counts item
-none_wanted counts zero h = refl
-none_wanted counts (suc k) (inl e) = absurd (omega arith)
-none_wanted counts (suc k) (inr lt) = sym (get_or_past counts k 0 (omega arith))
-
-pub some_wanted : (counts : List ℕ) (item : ℕ) → 0 < item → entry counts item ≡ get_or counts (item - 1) 0
-some_wanted counts zero h = absurd (omega arith)
-some_wanted counts (suc k) h = ap (λ n. get_or counts n 0) (let e : k ≡ suc k - 1 = omega arith in e)
 
 first_ahead : (counts : List ℕ) (r : Row) → r.item ≡ 1 → r.copies ≡ 0 → 0 < length counts → ahead counts r ≡ counts
 first_ahead [] r item copies some = absurd (omega arith)
@@ -285,11 +275,3 @@ fitting f times (Some arcs) e = go (cases_Bool (overflows f times arcs))
     go : (overflows f times arcs ≡ true) ⊎ (overflows f times arcs ≡ false) → Fitting f times (Some arcs)
     go (inl t) = let p : Ok tt ≡ Err ArcOverLimit = e ∙ cond-true _ _ _ t in let z : ◌≡◌ {A = ℕ} 0 1 = cc in absurd (omega arith)
     go (inr t) = record { is = refl; room = t }
-
-pub refused : (j : Content) (times : ℕ) (r : Option (List ℕ)) (e : Refusal) → Err e ≡ verdict j.flow times false r → place_on j times r ≡ refuse (Open j) e
-refused j times None e h = let same : e ≡ NoPattern = cc in ap (refuse (Open j)) (sym same)
-refused j times (Some arcs) e h = go (cases_Bool (overflows j.flow times arcs))
-  where
-    go : (overflows j.flow times arcs ≡ true) ⊎ (overflows j.flow times arcs ≡ false) → place_on j times (Some arcs) ≡ refuse (Open j) e
-    go (inl t) = let p : Err e ≡ Err ArcOverLimit = h ∙ cond-true _ _ _ t in let same : e ≡ ArcOverLimit = cc in cond-true _ _ _ t ∙ ap (refuse (Open j)) (sym same)
-    go (inr t) = let p : Err e ≡ Ok tt = h ∙ cond-false _ _ _ t in let z : ◌≡◌ {A = ℕ} 0 1 = cc in absurd (omega arith)

@@ -54,6 +54,7 @@ impl<'a> Flow<'a> {
         let target = self.rows.len() as u32 - 1;
         let mut inflows = [0; MAX_NODES];
         self.pass_on(0, &mut inflows);
+        // by number: a node is a cell of the inflows and two of the flow
         for node in 1..target {
             if inflows[node as usize] != self.outflow(node) {
                 return Some(node);
@@ -81,6 +82,7 @@ impl<'a> Flow<'a> {
         requires { length items.now ≤ 64 }
         ensures { result ≡ lacking (holding self.now.rows.now self.now.arcs.now (demands_of items.now)) }
     {
+        // numbered by place: with `zip(1..)` the proof lacks which number comes with an item
         for (place, item) in items.iter().enumerate() {
             let number = place as u32 + 1;
             if self.copies_of(number) < u64::from(item.demand) {
@@ -91,7 +93,7 @@ impl<'a> Flow<'a> {
     }
 }
 
-// How many arcs carry flow.
+// How many arcs carry flow. This scan and the next take the cells alone: they need no graph, and no limit on a flow.
 pub fn count_carrying(arcs: &[u32]) -> u32
     requires { length arcs.now ≤ 131070 }
     ensures { result ≡ carrying arcs.now }
@@ -99,7 +101,7 @@ pub fn count_carrying(arcs: &[u32]) -> u32
     arcs.iter().filter(|flow| **flow > 0).count() as u32
 }
 
-// The place of the first cell that is not 0.
+// The place of the first cell that is not 0. It stands alone, as the answer of `position` is not told past a `map`.
 fn first_loaded(arcs: &[u32]) -> Option<usize>
     ensures { result ≡ position (λ x. nat_lt 0 x) arcs.now }
 {

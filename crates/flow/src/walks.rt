@@ -11,7 +11,7 @@ use crate::flows::Flow;
 use graph::Row;
 use refusal::Refusal;
 
-// Sets the first cells to 0.
+// Sets the first cells to 0. Its clause tells the whole memory, which `fill` on a part of it does not.
 pub fn wipe(cells: &mut [u32], arcs: usize)
     requires { arcs ≤ length cells.old }
     ensures { cells.new ≡ replicate arcs 0 ++ drop arcs cells.old }
@@ -19,7 +19,8 @@ pub fn wipe(cells: &mut [u32], arcs: usize)
     cells[..arcs].fill(0);
 }
 
-// Where an arc leads, if there is one of this number.
+// Where an arc leads, if there is one of this number. The steps of walks take slices and no `Flow`, since some walks write the
+// flow as they go.
 pub fn target_of(rows: &[Row], arc: u32) -> Option<u32>
     ensures { result ≡ head rows.now arc }
 {

@@ -48,6 +48,13 @@ open_loaded s a e = let z : ◌≡◌ {A = ℕ} 0 1 = cc in omega arith
 pub accepted_loaded : (s : State) → s ≡ Accepted → s ≡ Empty → ⊥
 accepted_loaded s a e = let z : ◌≡◌ {A = ℕ} 0 1 = cc in omega arith
 
+-- so its graph stands
+pub loaded_open : (c : Core) → Sound c → c.state ≡ Open → Loaded c
+loaded_open c s a = (kept c s).loaded (open_loaded c.state a)
+
+pub loaded_accepted : (c : Core) → Sound c → c.state ≡ Accepted → Loaded c
+loaded_accepted c s a = (kept c s).loaded (accepted_loaded c.state a)
+
 pub open_unsettled : (s : State) → s ≡ Open → s ≡ Accepted → ⊥
 open_unsettled s a e = let z : ◌≡◌ {A = ℕ} 0 1 = cc in omega arith
 

@@ -6,5 +6,4 @@ pub mod Places
 pub mod Accepts
 pub mod Peels
 pub mod Reducing
-pub mod Writing
 pub mod Compiling

@@ -7,7 +7,7 @@ use Rattle.flow.specs.declared.ItemRecord.{ItemRecord}
 use Rattle.refusal.specs.declared.Refusal.TheVariants.{TooLittleMemory}
 use Rattle.graph.specs.declared.Row.{Row}
 use Rattle.graph.specs.Graph.{spelled}
-use Rattle.flow.specs.Flow.{value, copies_of, pull}
+use Rattle.flow.specs.Flow.{value, copies_of, least, pull, trail}
 use Rattle.flow.specs.Job.{View.Accepted, Call.Peel, Reply.Packed, Answer.Refused, Answer.Done, with_flow, next_arcs, next_bin, step}
 use Rattle.flow.specs.Scans.{no_item}
 use Rattle.flow.specs.Walks.{Flowing, Ready}
@@ -33,6 +33,13 @@ module _ (b : Core) (k : Kept b) (accepted : b.state ≡ TheVariants.Accepted) (
   pub flowing_at : (m : ℕ) (g : List Row) (f : List ℕ) → m ≡ count_of b → g ≡ graph_of b → f ≡ flow_of b → Flowing m g f
   flowing_at m g f count rows flow =
       subst (λ n. Flowing n g f) (sym count) (subst (λ h. Flowing (count_of b) h f) (sym rows) (subst (λ h. Flowing (count_of b) (graph_of b) h) (sym flow) flowing))
+
+  -- what the next bin is, at names of the same
+  pub times_at : (g : List Row) (f : List ℕ) (t : ℕ) → g ≡ graph_of b → f ≡ flow_of b → t ≡ least f (trail (length g) g f 0) → t ≡ (next_bin (content b)).times
+  times_at g f t rows flow is = is ∙ (λ i. least (flow i) (trail (length (rows i)) (rows i) (flow i) 0))
+
+  pub counts_at : (g : List Row) (f told : List ℕ) → g ≡ graph_of b → f ≡ flow_of b → told ≡ spelled (trail (length g) g f 0) → told ≡ spelled (next_arcs (content b))
+  counts_at g f told rows flow is = is ∙ (λ i. spelled (trail (length (rows i)) (rows i) (flow i) 0))
 
   abbrev arcs : List ℕ
   arcs = next_arcs (content b)

@@ -1,20 +1,18 @@
 -- What place leaves.
-use Rattle.std.proofs.Common.{◌≡◌, ℕ, ◌≤◌, false, eqb, ltb, List, ◌++◌, length, drop, Ok, Err, Option, sym, refl, ap, ◌∙◌, subst, arith, MutBor}
+use Rattle.std.proofs.Common.{◌≡◌, ℕ, ◌≤◌, false, eqb, ltb, List, ◌++◌, length, drop, Ok, Option, sym, refl, ap, ◌∙◌, subst, arith, MutBor}
 use Rattle.std.proofs.lemmas.Bool.{cond-true, cond-false, eq-eqb, ne_eqb, le-ltb, or_from}
-use Rattle.refusal.specs.declared.Refusal.{Refusal}
-use Rattle.refusal.specs.declared.Refusal.TheVariants.{NoPattern}
 use Rattle.graph.specs.Graph.{walk, Path, Layered}
 use Rattle.graph.specs.declared.Row.{Row}
 use Rattle.graph.proofs.Paths.{walk_path}
 use Rattle.flow.specs.Flow.{push}
-use Rattle.flow.specs.Job.{limit, View.Open, Call.Place, Reply.Plain, Answer.Refused, Answer.Done, path_of, place_on, step}
+use Rattle.flow.specs.Job.{limit, View.Open, Call.Place, Reply.Plain, Answer.Done, path_of, place_on, step}
 use Rattle.flow.specs.Walks.{Placeable, verdict, arcs_along}
 use Rattle.flow.proofs.Paths.{path_rising}
 use Rattle.flow.proofs.Place.{push_on_arcs}
-use Rattle.flow.proofs.Routing.{Fitting, fitting, refused, push_limited}
+use Rattle.flow.proofs.Routing.{Fitting, fitting, push_limited}
 use Rattle.job.specs.declared.state.State.TheVariants
 use Rattle.job.specs.declared.state.Core.{Core}
-use Rattle.job.specs.View.{graph_of, flow_of, arcs_of, count_of, demanded, content, size, view}
+use Rattle.job.specs.View.{graph_of, flow_of, arcs_of, count_of, demanded, content, size}
 use Rattle.job.specs.Sound.{Loaded, Kept}
 use Rattle.job.specs.Contract.{Follows}
 use Rattle.job.proofs.Facts.{open_loaded, open_unsettled, shape, on_arcs, demands_count}
@@ -38,17 +36,9 @@ module _ (b : Core) (counts : List ℕ) (times : ℕ) (k : Kept b) (opened : b.s
     goes : step (size b) (Open (content b)) (Place counts times) ≡ place_on (content b) times (path_of (content b) counts)
     goes = cond-false _ _ _ (or_from (eqb times 0) (ltb limit times) (ne_eqb times 0 some) (le-ltb limit times few))
 
-    pub place_other : (length counts ≡ count_of b → ⊥) → step (size b) (view b) (Place counts times) ≡ (Refused NoPattern, view b)
-    place_other ne =
-        when_open b (Place counts times) _ _ opened
-        (goes ∙ ap (place_on (content b) times) (cond-false _ _ _ (ne_eqb (length counts) (length (demanded b)) (λ e. ne (e ∙ demands_count b)))))
-
     module _ (count : length counts ≡ count_of b) where
       along : step (size b) (Open (content b)) (Place counts times) ≡ place_on (content b) times path
       along = goes ∙ ap (place_on (content b) times) (cond-true _ _ _ (eq-eqb (length counts) (length (demanded b)) (count ∙ sym (demands_count b))))
-
-      pub place_refused : (e : Refusal) → Err e ≡ verdict (flow_of b) times false path → step (size b) (view b) (Place counts times) ≡ (Refused e, view b)
-      place_refused e h = when_open b (Place counts times) _ _ opened (along ∙ refused (content b) times path e h)
 
       pub place_done : (r : MutBor (List ℕ)) → Ok tt ≡ verdict (flow_of b) times false path → r.now ≡ push (flow_of b) (arcs_along path) times ++ drop (arcs_of b) b.cells.now → r.ghost_name ≡ b.cells.ghost_name →
           Follows b (after b r b.items b.state) (Place counts times) (Done Plain)

@@ -50,7 +50,7 @@ impl<'a> Core<'a> {
             return Err(Refusal::BelowDemand { item });
         }
         let arcs = count_carrying(self.flow().arcs);
-        // the cells are taken out meanwhile, so that the records can be written while the flow is read
+        // the cells are taken out meanwhile: a job that lends its flow cannot lend its records for writing
         let cells = std::mem::take(&mut self.cells);
         tally(&flow_in(&self.rows, &*cells), self.items.as_mut_slice());
         self.cells = cells;

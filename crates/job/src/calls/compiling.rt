@@ -42,6 +42,7 @@ impl<'a> Core<'a> {
     {
         check_items(kind, items)?;
         let room = self.size().min(loads.len());
+        // no `?` here: this refusal leaves the job empty
         let Some(nodes) = compile::compile(kind, items, &mut self.rows, &mut loads[..room]) else {
             self.state = State::Empty;
             return Err(Refusal::TooManyNodes);

@@ -18,6 +18,7 @@ fn book(items: &mut [ItemRecord], counts: &[u32], times: u32)
     requires enough { (i : ℕ) → i < length items.old → times * slice_index counts.now i ≤ (slice_index_or items.old i no_item).left }
     ensures { LeftsSet items.old items.new (λ i. (slice_index_or items.old i no_item).left - times * slice_index counts.now i) }
 {
+    // numbered by place: with `zip` the proof lacks which record an item of the loop is
     for (place, item) in items.iter_mut().enumerate() {
         item.left -= u64::from(times) * u64::from(counts[place]);
     }

@@ -18,6 +18,7 @@ fn demands_in(items: &[ItemRecord]) -> [u32; MAX_ITEMS]
     ensures { take (length items.now) result ≡ demands_of items.now }
 {
     let mut demands = [0; MAX_ITEMS];
+    // numbered by place: with `zip` the proof lacks which cell an item of the loop is
     for (place, item) in items.iter().enumerate() {
         demands[place] = item.demand;
     }

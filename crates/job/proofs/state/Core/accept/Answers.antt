@@ -7,24 +7,24 @@ use Rattle.job.specs.Contract.{Follows}
 use Rattle.job.specs.declared.state.State.TheVariants
 use Rattle.flow.proofs.Inflow.{upward}
 use Rattle.job.specs.View.{arcs_of, content}
-use Rattle.job.proofs.Facts.{kept, open_loaded, shape}
+use Rattle.job.proofs.Facts.{kept, loaded_open, shape}
 use Rattle.job.proofs.Follow.{refuses, when_open}
 use Rattle.job.proofs.Accepts.{uneven, tallied, accept_uneven, accept_large, accept_short, accepted}
 use Rattle.job.proofs.state.Core.accept.Goals as goal
 
 pub flow-requires : goal.flow-requires
-flow-requires c = let b = c.args.self.now in (kept b c.requires).loaded (open_loaded b.state (c.in_ok-expect.ensures.ok.0 refl))
+flow-requires c = let b = c.args.self.now in loaded_open b c.requires (c.in_ok-expect.ensures.ok.0 refl)
 
 pub first_unbalanced-requires-clause-upward : goal.first_unbalanced-requires-clause-upward
 first_unbalanced-requires-clause-upward c =
     let b = c.args.self.now in
-    let l = (kept b c.requires).loaded (open_loaded b.state (c.in_ok-expect.ensures.ok.0 refl)) in
+    let l = loaded_open b c.requires (c.in_ok-expect.ensures.ok.0 refl) in
     subst Upward (sym c.flow.ensures.rows) (upward (shape b l))
 
 pub first_unbalanced-requires-clause-two : goal.first_unbalanced-requires-clause-two
 first_unbalanced-requires-clause-two c =
     let b = c.args.self.now in
-    let l = (kept b c.requires).loaded (open_loaded b.state (c.in_ok-expect.ensures.ok.0 refl)) in
+    let l = loaded_open b c.requires (c.in_ok-expect.ensures.ok.0 refl) in
     omega (arith, (shape b l).two, ap length c.flow.ensures.rows)
 
 pub returns-in-Some : goal.returns-in-Some
@@ -35,13 +35,13 @@ returns-in-Some c =
     (accept_uneven (content b) c.in-Some.node (sym (uneven b _ _ c.flow.ensures.rows c.flow.ensures.arcs) ∙ sym c.first_unbalanced.ensures ∙ c.in-Some.is)))
 
 pub value-value-requires : goal.value-value-requires
-value-value-requires c = let b = c.args.self.now in (kept b c.requires).loaded (open_loaded b.state (c.in_ok-expect.ensures.ok.0 refl))
+value-value-requires c = let b = c.args.self.now in loaded_open b c.requires (c.in_ok-expect.ensures.ok.0 refl)
 
 pub first_short-requires : goal.first_short-requires
-first_short-requires c = let b = c.args.self.now in (kept b c.requires).loaded (open_loaded b.state (c.in_ok-expect.ensures.ok.0 refl))
+first_short-requires c = let b = c.args.self.now in loaded_open b c.requires (c.in_ok-expect.ensures.ok.0 refl)
 
 pub flow-requires-2 : goal.flow-requires-2
-flow-requires-2 c = let b = c.args.self.now in (kept b c.requires).loaded (open_loaded b.state (c.in_ok-expect.ensures.ok.0 refl))
+flow-requires-2 c = let b = c.args.self.now in loaded_open b c.requires (c.in_ok-expect.ensures.ok.0 refl)
 
 pub returns-then-value-gt-LIMIT : goal.returns-then-value-gt-LIMIT
 returns-then-value-gt-LIMIT c =

@@ -4,14 +4,14 @@ use Rattle.graph.specs.Graph.{head}
 use Rattle.flow.specs.Job.{limit, Call.Carry, Reply.Plain}
 use Rattle.flow.proofs.Scanning.{arc_within}
 use Rattle.job.specs.View.{graph_of}
-use Rattle.job.proofs.Facts.{kept, open_loaded, open_unsettled}
+use Rattle.job.proofs.Facts.{loaded_open, open_unsettled}
 use Rattle.job.proofs.Follow.{follows, holds_now, holds_set, wrote_set, when_open}
 use Rattle.job.proofs.state.Core.carry.Goals as goal
 
 pub bounds-self-arc : goal.bounds-self-arc
 bounds-self-arc c =
     let b = c.args.self.now in
-    let l = (kept b c.requires).loaded (open_loaded b.state (c.in_ok-expect.ensures.ok.0 refl)) in
+    let l = loaded_open b c.requires (c.in_ok-expect.ensures.ok.0 refl) in
     let e = ap (λ g. head g c.args.arc) (sym c.as_slice.ensures) ∙ sym c.target_of.ensures ∙ c.in_ok-ok_or.ensures.ok_part in
     omega (arith, l.room, arc_within (graph_of b) c.args.arc c.in_ok-ok_or.field-0 e)
 
@@ -19,7 +19,7 @@ pub returns : goal.returns
 returns c =
     let b = c.args.self.now in
     let opened = c.in_ok-expect.ensures.ok.0 refl in
-    let l = (kept b c.requires).loaded (open_loaded b.state opened) in
+    let l = loaded_open b c.requires opened in
     let h = holds_now b l in
     let e = ap (λ g. head g c.args.arc) (sym c.as_slice.ensures) ∙ sym c.target_of.ensures ∙ c.in_ok-ok_or.ensures.ok_part in
     follows b _ b.items b.state _ (holds_set b h c.args.arc c.in_ok-ok_or.field-0 c.args.flow e c.if-flow-gt-LIMIT.false) (wrote_set b h c.args.arc c.in_ok-ok_or.field-0 c.args.flow e)

@@ -1,22 +1,20 @@
 use Rattle.std.proofs.Common.{◌≡◌, ◌-◌, ◌*◌, ◌<◌, ◌≤◌, ◌++◌, length, get_or, take, drop, refl, sym, ap, ◌∙◌, subst, arith}
 use Rattle.std.proofs.lemmas.List.{length-take-le, take_at, drop_at}
 use Rattle.std.proofs.lemmas.Bool.{true≢false}
-use Rattle.graph.specs.Graph.{spelled}
-use Rattle.flow.specs.Flow.{value, least, pull, trail}
-use Rattle.flow.specs.Job.{next_bin, next_arcs}
+use Rattle.flow.specs.Flow.{value, pull, trail}
 use Rattle.flow.specs.Scans.{no_item}
 use Rattle.flow.specs.Walks.{Ready}
-use Rattle.job.specs.View.{flow_of, count_of, content}
-use Rattle.job.proofs.Facts.{kept, accepted_loaded}
-use Rattle.job.proofs.Peels.{flowing_at, spelled_long, ready, enough, peel_done}
+use Rattle.job.specs.View.{flow_of, count_of}
+use Rattle.job.proofs.Facts.{kept, loaded_accepted}
+use Rattle.job.proofs.Peels.{times_at, counts_at, flowing_at, spelled_long, ready, enough, peel_done}
 use Rattle.job.proofs.Records.{retold}
 use Rattle.job.proofs.state.Core.peel.Goals as goal
 
 pub value-requires : goal.value-requires
-value-requires c = let b = c.args.self.now in (kept b c.requires).loaded (accepted_loaded b.state (c.in_ok-expect.ensures.ok.0 refl))
+value-requires c = let b = c.args.self.now in loaded_accepted b c.requires (c.in_ok-expect.ensures.ok.0 refl)
 
 pub flow-requires : goal.flow-requires
-flow-requires c = let b = c.args.self.now in (kept b c.requires).loaded (accepted_loaded b.state (c.in_ok-expect.ensures.ok.0 refl))
+flow-requires c = let b = c.args.self.now in loaded_accepted b c.requires (c.in_ok-expect.ensures.ok.0 refl)
 
 pub spell_next-times-requires : goal.spell_next-times-requires
 spell_next-times-requires c =
@@ -29,7 +27,7 @@ take_off-requires-clause-ready c =
     let b = c.args.self.now in
     let some : 0 < value (flow_of b) = omega (arith, c.value.ensures, c.if-value-eq0.false) in
     let t = c.spell_next-times.result in
-    let times : t ≡ (next_bin (content b)).times = c.spell_next-times.ensures.times ∙ (λ i. least (c.flow.ensures.arcs i) (trail (length (c.flow.ensures.rows i)) (c.flow.ensures.rows i) (c.flow.ensures.arcs i) 0)) in
+    let times = times_at b (kept b c.requires) (c.in_ok-expect.ensures.ok.0 refl) some _ _ t c.flow.ensures.rows c.flow.ensures.arcs c.spell_next-times.ensures.times in
     subst (λ g. Ready g (take (2 * length g) b.cells.now) t) (sym c.as_slice-rows.ensures) (ready b (kept b c.requires) (c.in_ok-expect.ensures.ok.0 refl) some t times)
 
 pub book-requires-clause-enough : goal.book-requires-clause-enough
@@ -38,8 +36,8 @@ book-requires-clause-enough c =
     let some : 0 < value (flow_of b) = omega (arith, c.value.ensures, c.if-value-eq0.false) in
     let t = c.spell_next-times.result in
     let counts = c.spell_next-times.new.counts ++ drop c.len-count.result c.args.counts.now in
-    let times : t ≡ (next_bin (content b)).times = c.spell_next-times.ensures.times ∙ (λ i. least (c.flow.ensures.arcs i) (trail (length (c.flow.ensures.rows i)) (c.flow.ensures.rows i) (c.flow.ensures.arcs i) 0)) in
-    let told : c.spell_next-times.new.counts ≡ spelled (next_arcs (content b)) = c.spell_next-times.ensures.counts ∙ (λ i. spelled (trail (length (c.flow.ensures.rows i)) (c.flow.ensures.rows i) (c.flow.ensures.arcs i) 0)) in
+    let times = times_at b (kept b c.requires) (c.in_ok-expect.ensures.ok.0 refl) some _ _ t c.flow.ensures.rows c.flow.ensures.arcs c.spell_next-times.ensures.times in
+    let told = counts_at b (kept b c.requires) (c.in_ok-expect.ensures.ok.0 refl) some _ _ _ c.flow.ensures.rows c.flow.ensures.arcs c.spell_next-times.ensures.counts in
     λ i lt. subst (λ xs. t * get_or counts i 0 ≤ (get_or xs i no_item).left) (sym c.as_mut_slice.ensures.value)
     (enough b (kept b c.requires) (c.in_ok-expect.ensures.ok.0 refl) some t times counts _ _ told refl i (let l : i < count_of b = omega (arith, ap length c.as_mut_slice.ensures.value) in l))
 
@@ -52,8 +50,8 @@ returns c =
     let t = c.spell_next-times.result in
     let told = c.spell_next-times.new.counts in
     let past = drop c.len-count.result c.args.counts.now in
-    let times : t ≡ (next_bin (content b)).times = c.spell_next-times.ensures.times ∙ (λ i. least (c.flow.ensures.arcs i) (trail (length (c.flow.ensures.rows i)) (c.flow.ensures.rows i) (c.flow.ensures.arcs i) 0)) in
-    let is : told ≡ spelled (next_arcs (content b)) = c.spell_next-times.ensures.counts ∙ (λ i. spelled (trail (length (c.flow.ensures.rows i)) (c.flow.ensures.rows i) (c.flow.ensures.arcs i) 0)) in
+    let times = times_at b (kept b c.requires) (c.in_ok-expect.ensures.ok.0 refl) some _ _ t c.flow.ensures.rows c.flow.ensures.arcs c.spell_next-times.ensures.times in
+    let is = counts_at b (kept b c.requires) (c.in_ok-expect.ensures.ok.0 refl) some _ _ _ c.flow.ensures.rows c.flow.ensures.arcs c.spell_next-times.ensures.counts in
     let long : length told ≡ count_of b = ap length is ∙ spelled_long b k accepted some in
     let cells = b.cells.now in
     record {

@@ -2,22 +2,22 @@ use Rattle.std.proofs.Common.{◌*◌, ◌++◌, false, length, take, drop, refl
 use Rattle.graph.specs.Graph.{walk}
 use Rattle.flow.specs.Flow.{push}
 use Rattle.flow.specs.Walks.{verdict, arcs_along}
-use Rattle.job.proofs.Facts.{kept, open_loaded}
+use Rattle.job.proofs.Facts.{kept, loaded_open}
 use Rattle.job.proofs.Places.{placeable, place_done}
 use Rattle.job.proofs.state.Core.place.Goals as goal
 
 pub flow-requires : goal.flow-requires
-flow-requires c = let b = c.args.self.now in (kept b c.requires).loaded (open_loaded b.state (c.in_ok-expect.ensures.ok.0 refl))
+flow-requires c = let b = c.args.self.now in loaded_open b c.requires (c.in_ok-expect.ensures.ok.0 refl)
 
 pub check_route-requires : goal.check_route-requires
 check_route-requires c =
     let b = c.args.self.now in
-    placeable b _ c.args.counts.now c.args.times ((kept b c.requires).loaded (open_loaded b.state (c.in_ok-expect.ensures.ok.0 refl))) c.flow.ensures.rows (c.if-counts-len.false ∙ c.len.ensures.value) c.if-times-gt-LIMIT.false
+    placeable b _ c.args.counts.now c.args.times (loaded_open b c.requires (c.in_ok-expect.ensures.ok.0 refl)) c.flow.ensures.rows (c.if-counts-len.false ∙ c.len.ensures.value) c.if-times-gt-LIMIT.false
 
 pub add_route-requires-clause-placeable : goal.add_route-requires-clause-placeable
 add_route-requires-clause-placeable c =
     let b = c.args.self.now in
-    placeable b _ c.args.counts.now c.args.times ((kept b c.requires).loaded (open_loaded b.state (c.in_ok-expect.ensures.ok.0 refl))) c.as_slice-rows.ensures (c.if-counts-len.false ∙ c.len.ensures.value) c.if-times-gt-LIMIT.false
+    placeable b _ c.args.counts.now c.args.times (loaded_open b c.requires (c.in_ok-expect.ensures.ok.0 refl)) c.as_slice-rows.ensures (c.if-counts-len.false ∙ c.len.ensures.value) c.if-times-gt-LIMIT.false
 
 pub returns : goal.returns
 returns c =
