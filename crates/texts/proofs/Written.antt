@@ -1,7 +1,7 @@
 -- Lines and words of a written text.
 use Rattle.std.proofs.Common.{◌≡◌, ℕ, zero, suc, ◌<◌, ◌≤◌, true, false, eqb, leb, List, [], ◌∷◌, ◌++◌, map, length, get_or, Some, decimal, refl, ap, ◌∙◌, arith, rules}
 use Rattle.std.specs.Char.{is_ascii_digit, is_ascii_alphabetic}
-use Rattle.std.specs.List.{All, AllByRecursion}
+use Rattle.std.specs.List.{All, AllByRecursion, onto_first}
 use Rattle.std.proofs.ByRecursion.{All-append, All-weaker}
 use Rattle.std.proofs.lemmas.List.Elements.{All-from_recursion}
 use Rattle.std.proofs.lemmas.List.Splits.{slice_split_at, slice_split_none}
@@ -9,7 +9,6 @@ use Rattle.std.proofs.lemmas.Fmt.{decimal_digit, digits_decimal, digits_value-de
 use Rattle.std.proofs.lemmas.Str.Parse.{IsNumeralModel, numerals_by_fold}
 use Rattle.std.proofs.lemmas.Bool.{and_parts, and_from, le-leb, ne_eqb, leb-true, not_from_false, both_ways, cond-true, cond-false}
 use Rattle.std.proofs.lemmas.Bool.Decides.{nat_tests}
-use Rattle.std.specs.List.{onto_first}
 use Rattle.texts.specs.declared.fields.Field.TheVariants.{Number}
 use Rattle.texts.specs.Split.{lines, words}
 use Rattle.texts.specs.Words.{form, numeric, number_of, all_digits, value, no_leading_zero, number_from}
@@ -42,6 +41,7 @@ words_spaced w (v ∷ ws) a = slice_split_at (λ b. eqb b 32) w 32 (spaced (v �
 abbrev Line : List ℕ → Type 0
 Line x = AllByRecursion (Within 32 126) x
 
+-- a word may stand in a line
 word_line : (w : List ℕ) → AllByRecursion (Within 33 126) w → Line w
 word_line w a = All-weaker (Within 33 126) (Within 32 126) (λ b h. (omega (arith, h.0), h.1)) w a
 
