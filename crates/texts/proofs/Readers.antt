@@ -1,4 +1,4 @@
--- Readers that go on.
+-- Readers that go on, and then go on again.
 use Rattle.std.proofs.Common.{ℕ, ◌+◌, drop, ap, ◌∙◌, arith}
 use Rattle.std.proofs.lemmas.List.{drop-drop}
 use Rattle.texts.specs.declared.fields.Fields.{Fields}

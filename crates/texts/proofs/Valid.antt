@@ -18,13 +18,10 @@ use Rattle.texts.specs.Words.{form}
 use Rattle.texts.specs.Grammar.{Read, Entry, Spelled, and_then, shape, number_in, number_at, numbers_at, sole_number, four_numbers, prints_of, printable, line_at, end_at, count_at, first_letter, base_by, base_of, base_at, count_limit_by, count_limit_of, count_limit_at, second_at, known, good_name, name_at, field_count_of, item_of, item_at, items_at, names_of, section, text_end, item_lines, items_section, second_line, limit_lines, sections, formed, reads}
 use Rattle.texts.specs.Valid.{Within, Name, Item, Limit, CountLimit, Distinct, OnLines, first_item, Valid, ReadsValid}
 
-ok_not : {A : Type 0} (e : Refusal) (a : A) → ◌≡◌ {A = Read A} (Err e) (Ok a) → ⊥
-ok_not e a h = let z : ◌≡◌ {A = ℕ} 0 1 = cc in omega arith
-
 -- a part of a text that was read, and what follows it
 pub taken : {A B : Type 0} (r : Read A) (f : A → Read B) (b : B) → and_then r f ≡ Ok b → (a : A) × (r ≡ Ok a) × (f a ≡ Ok b)
 taken (Ok a) f b h = (a, refl, h)
-taken (Err e) f b h = absurd (ok_not e b h)
+taken (Err e) f b h = absurd (cc)
 
 pub section_taken : {A B : Type 0} (n : ℕ) (part : ℕ → List (List ℕ) → Read A) (follows : A → ℕ → List (List ℕ) → Read B) (l : ℕ) (ls : List (List ℕ)) (b : B) → section n part follows l ls ≡ Ok b → (a : A) × (part (l + 1) ls ≡ Ok a) × (follows a (l + n) (drop n ls) ≡ Ok b)
 unfolding section
@@ -33,18 +30,18 @@ section_taken n part follows l ls b h = taken (part (l + 1) ls) (λ a. follows a
 -- a test that was passed
 passed : {A : Type 0} (t : Bool) (a : A) (e : Refusal) (b : A) → cond t (Ok a) (Err e) ≡ Ok b → (t ≡ true) × (a ≡ b)
 passed true a e b h = (refl, cc)
-passed false a e b h = absurd (ok_not e b h)
+passed false a e b h = absurd (cc)
 
 number_within : (low high line k : ℕ) (f : Field) (n : ℕ) → number_in low high line k f ≡ Ok n → Within low high n
-number_within low high line k Word n h = absurd (ok_not _ n h)
-number_within low high line k (Letter c) n h = absurd (ok_not _ n h)
+number_within low high line k Word n h = absurd (cc)
+number_within low high line k (Letter c) n h = absurd (cc)
 number_within low high line k (Number m) n h =
     let p = passed (leb low m && leb m high) m _ n h in
     let q = and_parts _ _ p.0 in
     subst (Within low high) p.1 (leb-true low m q.0, leb-true m high q.1)
 
 pub number_at_within : (low high line k : ℕ) (ws : List (List ℕ)) (n : ℕ) → number_at low high line k ws ≡ Ok n → Within low high n
-number_at_within low high line k [] n h = absurd (ok_not _ n h)
+number_at_within low high line k [] n h = absurd (cc)
 number_at_within low high line k (w ∷ ws) n h = number_within low high line k (form w) n h
 
 pub sole_within : (low high line k : ℕ) (ws : List (List ℕ)) (n : ℕ) → sole_number low high line k ws ≡ Ok n → Within low high n
@@ -80,13 +77,13 @@ words_printable (b ∷ bs) h =
     all_onto b (words bs) (omega arith, high) on)
 
 line_printable : (line : ℕ) (ls : List (List ℕ)) (x : List ℕ) → line_at line ls ≡ Ok x → printable x ≡ true
-line_printable line [] x h = absurd (ok_not _ x h)
+line_printable line [] x h = absurd (cc)
 line_printable line (y ∷ ys) x h =
     let p = passed (printable y) y _ x h in
     ap printable (sym p.1) ∙ p.0
 
 name_valid : (line k : ℕ) (names ws : List (List ℕ)) (w : List ℕ) → name_at line k names ws ≡ Ok w → AllByRecursion (AllByRecursion (Within 33 126)) ws → Name w × (known w names ≡ false)
-name_valid line k names [] w h a = absurd (ok_not _ w h)
+name_valid line k names [] w h a = absurd (cc)
 name_valid line k names (v ∷ ws) w h a =
     let p = passed (good_name names v) v _ w h in
     let q = and_parts _ _ p.0 in
@@ -172,10 +169,10 @@ base_by_valid line c ws b false false true h =
     let t = taken (sole_number 0 64 line 2 ws) (λ k. Ok (Colours k)) b h in
     let e : Colours t.0 ≡ b = cc t.2 in
     subst Limit e (sole_within 0 64 line 2 ws t.0 t.1)
-base_by_valid line c ws b false false false h = absurd (ok_not _ b h)
+base_by_valid line c ws b false false false h = absurd (cc)
 
 letter_valid : (line : ℕ) (o : Option ℕ) (ws : List (List ℕ)) (b : Base) → base_by line o ws ≡ Ok b → Limit b
-letter_valid line None ws b h = absurd (ok_not _ b h)
+letter_valid line None ws b h = absurd (cc)
 letter_valid line (Some c) ws b h = base_by_valid line c ws b (eqb c 76) (eqb c 86) (eqb c 67) h
 
 base_valid : (line : ℕ) (ls : List (List ℕ)) (b : Base) → base_at line ls ≡ Ok b → Limit b
@@ -184,9 +181,9 @@ base_valid line ls b h =
     letter_valid line (first_letter (words t.0)) (drop 1 (words t.0)) b t.2
 
 count_limit_by_valid : (line : ℕ) (o : Option ℕ) (ws : List (List ℕ)) (n : ℕ) → count_limit_by line o ws ≡ Ok n → Within 1 100000 n
-count_limit_by_valid line None ws n h = absurd (ok_not _ n h)
+count_limit_by_valid line None ws n h = absurd (cc)
 count_limit_by_valid line (Some c) ws n h =
-    cond_both (eqb c 78) (sole_number 1 100000 line 2 ws) (Err (UnknownLetter line 1)) (λ r. r ≡ Ok n → Within 1 100000 n) (λ _ g. sole_within 1 100000 line 2 ws n g) (λ _ g. absurd (ok_not _ n g)) h
+    cond_both (eqb c 78) (sole_number 1 100000 line 2 ws) (Err (UnknownLetter line 1)) (λ r. r ≡ Ok n → Within 1 100000 n) (λ _ g. sole_within 1 100000 line 2 ws n g) (λ _ g. absurd (cc)) h
 
 count_limit_valid : (line : ℕ) (ls : List (List ℕ)) (n : ℕ) → count_limit_at line ls ≡ Ok n → Within 1 100000 n
 count_limit_valid line ls n h =

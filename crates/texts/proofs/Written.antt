@@ -1,12 +1,14 @@
 -- Lines and words of a written text.
 use Rattle.std.proofs.Common.{◌≡◌, ℕ, zero, suc, ◌<◌, ◌≤◌, true, false, eqb, leb, List, [], ◌∷◌, ◌++◌, map, length, get_or, Some, decimal, refl, ap, ◌∙◌, arith, rules}
 use Rattle.std.specs.Char.{is_ascii_digit, is_ascii_alphabetic}
-use Rattle.std.specs.List.{AllByRecursion}
+use Rattle.std.specs.List.{All, AllByRecursion, onto_first}
+use Rattle.std.proofs.ByRecursion.{All-append, All-weaker}
+use Rattle.std.proofs.lemmas.List.Elements.{All-from_recursion}
+use Rattle.std.proofs.lemmas.List.Splits.{slice_split_at, slice_split_none}
 use Rattle.std.proofs.lemmas.Fmt.{decimal_digit, digits_decimal, digits_value-decimal, first_decimal, length-decimal-le, decimal_nonempty}
 use Rattle.std.proofs.lemmas.Str.Parse.{IsNumeralModel, numerals_by_fold}
 use Rattle.std.proofs.lemmas.Bool.{and_parts, and_from, le-leb, ne_eqb, leb-true, not_from_false, both_ways, cond-true, cond-false}
 use Rattle.std.proofs.lemmas.Bool.Decides.{nat_tests}
-use Rattle.std.specs.List.{onto_first}
 use Rattle.texts.specs.declared.fields.Field.TheVariants.{Number}
 use Rattle.texts.specs.Split.{lines, words}
 use Rattle.texts.specs.Words.{form, numeric, number_of, all_digits, value, no_leading_zero, number_from}
@@ -24,20 +26,14 @@ other low b mark h l = ne_eqb b mark (λ e. omega arith)
 
 -- The words of a line
 
--- a word, and the words after it
-first_word : (w : List ℕ) (rest : List ℕ) → AllByRecursion (Within 33 126) w → words (w ++ 32 ∷ rest) ≡ w ∷ words rest
-unfolding words
-first_word [] rest a = refl
-first_word (b ∷ w) rest a = cond-false _ _ _ (other 33 b 32 a.0.0 (omega arith)) ∙ ap (onto_first b) (first_word w rest a.1)
-
-last_word : (w : List ℕ) → AllByRecursion (Within 33 126) w → words w ≡ w ∷ []
-unfolding words
-last_word [] a = refl
-last_word (b ∷ w) a = cond-false _ _ _ (other 33 b 32 a.0.0 (omega arith)) ∙ ap (onto_first b) (last_word w a.1)
+-- no space stands in a word
+no_space : (w : List ℕ) → AllByRecursion (Within 33 126) w → All (λ b. eqb b 32 ≡ false) w
+no_space w a = All-from_recursion _ w (All-weaker (Within 33 126) (λ b. eqb b 32 ≡ false) (λ b h. other 33 b 32 h.0 (omega arith)) w a)
 
 pub words_spaced : (w : List ℕ) (ws : List (List ℕ)) → AllByRecursion Clean (w ∷ ws) → words (spaced (w ∷ ws)) ≡ w ∷ ws
-words_spaced w [] a = last_word w a.0.bytes
-words_spaced w (v ∷ ws) a = first_word w (spaced (v ∷ ws)) a.0.bytes ∙ ap (λ l. w ∷ l) (words_spaced v ws a.1)
+unfolding words
+words_spaced w [] a = slice_split_none (λ b. eqb b 32) w (no_space w a.0.bytes)
+words_spaced w (v ∷ ws) a = slice_split_at (λ b. eqb b 32) w 32 (spaced (v ∷ ws)) (no_space w a.0.bytes) refl ∙ ap (λ l. w ∷ l) (words_spaced v ws a.1)
 
 -- The lines of a text
 
@@ -45,18 +41,14 @@ words_spaced w (v ∷ ws) a = first_word w (spaced (v ∷ ws)) a.0.bytes ∙ ap 
 abbrev Line : List ℕ → Type 0
 Line x = AllByRecursion (Within 32 126) x
 
-line_append : (x y : List ℕ) → Line x → Line y → Line (x ++ y)
-line_append [] y a b = b
-line_append (c ∷ x) y a b = (a.0, line_append x y a.1 b)
-
+-- a word may stand in a line
 word_line : (w : List ℕ) → AllByRecursion (Within 33 126) w → Line w
-word_line [] a = tt
-word_line (b ∷ w) a = ((omega (arith, a.0.0), a.0.1), word_line w a.1)
+word_line w a = All-weaker (Within 33 126) (Within 32 126) (λ b h. (omega (arith, h.0), h.1)) w a
 
 pub spaced_line : (ws : List (List ℕ)) → AllByRecursion Clean ws → Line (spaced ws)
 spaced_line [] a = tt
 spaced_line (w ∷ []) a = word_line w a.0.bytes
-spaced_line (w ∷ v ∷ ws) a = line_append w (32 ∷ spaced (v ∷ ws)) (word_line w a.0.bytes) ((omega arith, omega arith), spaced_line (v ∷ ws) a.1)
+spaced_line (w ∷ v ∷ ws) a = All-append (Within 32 126) w (32 ∷ spaced (v ∷ ws)) (word_line w a.0.bytes) ((omega arith, omega arith), spaced_line (v ∷ ws) a.1)
 
 pub line_printable : (x : List ℕ) → Line x → printable x ≡ true
 line_printable [] a = refl

@@ -14,7 +14,7 @@ pub fn reads_written()
 {}
 
 // Texts with what they spell, or why they are refused.
-#[tactic(auto, unfolding(crate::specs::Split::lines, crate::specs::Split::words, crate::specs::Words::number_from, crate::specs::Grammar::numbers_at, crate::specs::Grammar::items_at, crate::specs::Grammar::section, crate::specs::Grammar::reads))]
+#[tactic(auto, unfolding(crate::specs::Split::lines, crate::specs::Split::words, crate::specs::Words::number_from, crate::specs::Grammar::numbers_at, crate::specs::Grammar::items_at, crate::specs::Grammar::section, crate::specs::Grammar::reads,))]
 pub fn examples_hold()
     ensures { Examples }
 {}

@@ -19,7 +19,7 @@ fn starts_well(bytes: &[u8]) -> bool
 // The number with one digit more at its end, up to the largest.
 fn with_digit(n: u32, b: u8) -> Option<u32>
     ensures value { result ≡ with_digit n b }
-    ensures small { IfSome result (λ m. m ≤ 1000000000) }
+    ensures small { IfSome result (λ m. m ≤ MAX_NUMBER) }
 {
     if !b.is_ascii_digit() {
         return None;

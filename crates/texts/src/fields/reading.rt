@@ -110,7 +110,7 @@ impl<'t> Fields<'t> {
     }
 
     // The next fields as numbers, one for each of `values`.
-    #[tactic(auto, using(crate::proofs::Counts::numbers_step, std::proofs::lemmas::List::take_more_set), unfolding(crate::specs::Grammar::numbers_at))]
+    #[tactic(auto, using(crate::proofs::Counts::numbers_step), unfolding(crate::specs::Grammar::numbers_at))]
     pub(crate) fn numbers(&mut self, values: &mut [u32]) -> Result<(), Refusal>
         ensures value { numbers_at self.old.line (self.old.number + 1) (length values.old) (words_left self.old) []
             ≡ and_then result (λ _. Ok values.new) }

@@ -136,6 +136,7 @@ pub fn read_instance<'t>(text: &'t [u8], into: &mut Instance<'t>) -> Result<(), 
 {
     into.items.clear();
     into.items.reserve(MAX_ITEMS)?;
+    // By cases: of a closure that clears the items, a proof would not know that it ran.
     match read_text(text, &mut into.items) {
         Ok(limits) => {
             into.limits = limits;

@@ -53,7 +53,8 @@ impl<'t> Lines<'t> {
         }
     }
 
-    // The next line, whatever its bytes.
+    // The next line, whatever its bytes. An empty rest is no line, while it is a field: so the readers of lines and of
+    // fields are two, and share the cut alone.
     #[tactic(auto, using(crate::proofs::Splits::lines_none, crate::proofs::Splits::lines_cut))]
     pub(crate) fn next(&mut self) -> Option<Line<'t>>
         ensures { MatchOption result (LinesEnded self.old self.new) (λ line. LineGiven self.old line self.new) }
