@@ -15,8 +15,8 @@ use std::mem;
 #[derive(Clone, Copy)]
 pub(crate) struct LinkedGraph<'a> {
     pub(crate) rows: &'a [Row],
-    pub(crate) first: &'a [u32],
-    pub(crate) next: &'a [u32],
+    first: &'a [u32],
+    next: &'a [u32],
     ghost few: { length rows.now ≤ 65535 },
     ghost order: { InOrder rows.now },
     ghost links: { Linked rows.now first.now next.now },
@@ -44,7 +44,7 @@ impl<'a> LinkedGraph<'a> {
     }
 }
 
-// The arcs into a node that are still to come, by rising number: `arc` is the next of them.
+// The arcs into a node that are still to come, by rising number: `arc` is the next of them, or the number past the last arc.
 #[derive(Drop)]
 pub(crate) struct Incoming<'a> {
     graph: LinkedGraph<'a>,
