@@ -58,6 +58,7 @@ fn write_node_row<S: Sink>(sink: &mut S, graph: LinkedGraph, node: usize)
     sink.put(b" = 0\n");
 }
 
+// The number of a node is what is written, so the loop goes over the numbers. The target has no row.
 pub(crate) fn write_node_rows<S: Sink>(sink: &mut S, graph: LinkedGraph)
     ensures { S.took sink.old (flat_map constraint (node_rows graph.entry.rows.now)) sink.new }
 {

@@ -18,7 +18,7 @@ returns g c =
     let source = c.filter-arcs.ensures.source in
     let took = c.write_arcs.ensures.took in
     let arcs = drained took.0 took.1
-        (YieldsList-from_filter _ (λ a. is_some (head rows a))
-        (YieldsList-from_map _ take_arc (YieldsList-from_range nodes.start nodes.end (nodes.end - nodes.start) (ap map_source source ∙ c.map.ensures.source) refl) (ap map_callee source ∙ c.map.ensures.closure) (λ x r q k. search rules))
-        c.filter-arcs.ensures.closure (λ x b q k. search rules)) in
+    (YieldsList-from_filter _ (λ a. is_some (head rows a))
+    (YieldsList-from_map _ take_arc (YieldsList-from_range nodes.start nodes.end (nodes.end - nodes.start) (ap map_source source ∙ c.map.ensures.source) refl) (ap map_callee source ∙ c.map.ensures.closure) (λ x r q k. search rules))
+    c.filter-arcs.ensures.closure (λ x b q k. search rules)) in
     same_bytes g.S.Sink.took (ap (entries (arc_entry Added) 0) (arcs ∙ takes_each rows c.args.item nodes.start nodes.end c.nodes_of.ensures) ∙ plus_entries 0 (item_arcs rows c.args.item)) took.2
