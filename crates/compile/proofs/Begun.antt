@@ -1,5 +1,5 @@
 -- The graph item by item.
-use Rattle.std.proofs.Common.{◌≡◌, ℕ, suc, ◌+◌, ◌<◌, ◌≤◌, List, [], ◌∷◌, ◌++◌, map, length, get_or, take, drop, Some, None, Option, sym, refl, ap, ◌∙◌, subst, arith, length-append}
+use Rattle.std.proofs.Common.{◌≡◌, ℕ, suc, ◌+◌, ◌<◌, ◌≤◌, List, [], ◌∷◌, ◌++◌, map, length, get_or, take, drop, Some, None, Option, sym, ap, ◌∙◌, arith, length-append}
 use lib.ListN.{length-map}
 use Rattle.std.proofs.lemmas.List.{append_assoc, append-nil, take_all, take_at, drop_at, drop_all, drop_more, length-take-le}
 use Rattle.limits.specs.Meaning.{Meaning}
@@ -28,20 +28,6 @@ module _ {L : Type 0} (f : L → List ℕ) (k : Meaning) (items : List Item) whe
     pub opened : Opened f (j + 1) low b
     pub rows : compiled k items ≡ take low (entries b.rows) ++ rows_from k (suc j) low (drop low (amounts f b)) (drop j items)
     pub loads_are : loads k items ≡ take low (amounts f b) ++ loads_from k (drop low (amounts f b)) (drop j items)
-
-  -- the source stands alone
-  pub begun_start : (b : Draft L) → entries b.rows ≡ row 1 0 None None ∷ [] → amounts f b ≡ k.empty ∷ [] → Begun 0 0 b
-  begun_start b e h =
-      let start : (rs : List Row) (xs : List (List ℕ)) → rs ≡ row 1 0 None None ∷ [] → xs ≡ k.empty ∷ []
-      → (drop 0 rs ≡ map (λ _. row 1 0 None None) (drop 0 xs)) × (compiled k items ≡ take 0 rs ++ rows_from k 1 0 (drop 0 xs) (drop 0 items))
-      × (loads k items ≡ take 0 xs ++ loads_from k (drop 0 xs) (drop 0 items)) =
-      λ rs xs p q. rw (p, q) (refl, refl, refl) in
-      let all = start (entries b.rows) (amounts f b) e h in
-      record {
-        opened = record { within = omega arith; first = all.0 };
-        rows = all.1;
-        loads_are = all.2;
-      }
 
   length_compiled : length (compiled k items) ≡ suc (length (loads k items))
   length_compiled = (compiles_layered k items).1
@@ -74,9 +60,6 @@ module _ {L : Type 0} (f : L → List ℕ) (k : Meaning) (items : List Item) whe
 
     one : suc j ≡ j + 1
     one = omega arith
-
-    pub begun_opened : Opened f x.number low b
-    begun_opened = subst (λ (i : ℕ). Opened f i low b) (sym number) begun.opened
 
     -- another item follows
     module _ (more : j + 1 < length items) where

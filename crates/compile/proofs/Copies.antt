@@ -1,5 +1,5 @@
 -- The stations of one item, built one after the other.
-use Rattle.std.proofs.Common.{◌≡◌, ℕ, zero, suc, ◌+◌, ◌-◌, ◌<◌, ◌≤◌, Bool, true, false, cond, List, [], ◌∷◌, ◌++◌, map, length, take, drop, Some, None, filter, Option, sym, refl, ap, ◌∙◌, subst, arith, length-append, take-append-drop}
+use Rattle.std.proofs.Common.{◌≡◌, ℕ, zero, suc, ◌+◌, ◌-◌, ◌<◌, ◌≤◌, Bool, true, false, cond, List, [], ◌∷◌, ◌++◌, map, length, take, drop, Some, None, filter, Option, sym, refl, ap, ◌∙◌, subst, arith, length-append}
 use lib.ListN.{length-map}
 use Rattle.std.specs.Option.{option_map}
 use Rattle.std.specs.Bool.{then_some}
@@ -89,13 +89,6 @@ module _ (k : Meaning) (w : List ℕ) where
       pub rows : qs ≡ take low rs ++ (done c ++ map (λ _. row i c None None) (stage k w c station))
 
     module _ (within : low ≤ length xs) (paired : length rs ≡ length xs) (first : drop low rs ≡ map (λ _. row i 0 None None) (drop low xs)) where
-      pub copies_start : Copies rs xs 0 low
-      copies_start = record {
-        begins = omega arith;
-        amounts = sym (take-append-drop low xs);
-        rows = sym (take-append-drop low rs) ∙ ap (λ (l : List Row). take low rs ++ l) first;
-      }
-
       module _ (qs : List Row) (ys : List (List ℕ)) (c from : ℕ) (so_far : Copies qs ys c from) where
         abbrev here : List (List ℕ)
         here = stage k w c station
@@ -110,19 +103,6 @@ module _ (k : Meaning) (w : List ℕ) where
         copies_length =
             ap length so_far.amounts ∙ length-append (take low xs) (lower c station ++ here)
             ∙ omega (arith, length_xs, length-append (lower c station) here, so_far.begins)
-
-        pub copies_paired : length qs ≡ length ys
-        copies_paired =
-            ap length so_far.rows ∙ length-append (take low rs) (done c ++ map (λ _. row i c None None) here)
-            ∙ omega (
-              arith,
-              length_rs,
-              length-append (done c) (map (λ _. row i c None None) here),
-              length-map here (λ (_ : List ℕ). row i c None None),
-              length_taking (λ _. None) i 0 c low station,
-              so_far.begins,
-              copies_length,
-            )
 
         last_amounts : drop from ys ≡ here
         last_amounts =

@@ -1,8 +1,8 @@
 -- Lists over lent memory, and graphs, grow step by step.
-use Rattle.std.proofs.Common.{◌≡◌, ℕ, ◌+◌, ◌-◌, ◌≤◌, [], ◌∷◌, length, drop, refl, ap, ◌∙◌, arith, length-append, length-drop}
+use Rattle.std.proofs.Common.{◌≡◌, ℕ, ◌+◌, ◌-◌, ◌≤◌, length, drop, refl, ap, ◌∙◌, arith}
 use Rattle.std.proofs.lemmas.List.{drop-drop}
 use Rattle.lists.specs.declared.list.List.{List as Grown}
-use Rattle.lists.specs.Entries.{entries, spare, SameMemory, Pushed}
+use Rattle.lists.specs.Entries.{entries, spare}
 use Rattle.compile.specs.declared.draft.Draft.{Draft}
 use Rattle.compile.specs.Growth.{Grew}
 use Rattle.compile.specs.Drafts.{GrewBoth, Short}
@@ -33,33 +33,7 @@ module _ {T : Type 0} where
         memory = q.memory ∙ p.memory;
       }
 
-  -- entries changed in place
-  pub grew_set : (l m : Grown T) → length (entries m) ≡ length (entries l) → spare m ≡ spare l → SameMemory m l → Grew l m
-  grew_set l m e s n =
-      let none : 0 ≡ length (entries m) - length (entries l) = omega (arith, e) in
-      record {
-        longer = omega (arith, e);
-        rest = s ∙ ap (λ (i : ℕ). drop i (spare l)) none;
-        room = omega (arith, e, ap length s);
-        memory = n;
-      }
-
-  pub grew_push : (l m : Grown T) (x : T) (i : ℕ) → Pushed l m x i → SameMemory m l → Grew l m
-  grew_push l m x i p n =
-      let long : length (entries m) ≡ length (entries l) + 1 = ap length p.added ∙ length-append (entries l) (x ∷ []) in
-      let one : 1 ≡ length (entries m) - length (entries l) = omega (arith, long) in
-      let room = p.room in
-      record {
-        longer = omega (arith, long);
-        rest = p.rest ∙ ap (λ (j : ℕ). drop j (spare l)) one;
-        room = omega (arith, long, ap length p.rest ∙ length-drop 1 (spare l), room);
-        memory = n;
-      }
-
 module _ {L : Type 0} where
-  pub grew_both_same : (b : Draft L) → GrewBoth b b
-  grew_both_same b = record { rows = grew_same b.rows b.rows refl; loads = grew_same b.loads b.loads refl }
-
   pub grew_both_trans : (b c d : Draft L) → GrewBoth b c → GrewBoth c d → GrewBoth b d
   grew_both_trans b c d g h = record { rows = grew_trans b.rows c.rows d.rows g.rows h.rows; loads = grew_trans b.loads c.loads d.loads g.loads h.loads }
 

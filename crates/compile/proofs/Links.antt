@@ -108,22 +108,9 @@ module _ (put : ℕ → Row → Row) (wanted : List ℕ → Option (List ℕ)) (
       ∙ ap (λ (n : ℕ). set ls n r) (sym back))
       ∙ sym (set-append_right (take low rs) ls low (low + j) r long (omega arith))
 
-  -- before the first node
-  pub linked_start : Linked put wanted q low rs rs xs xs 0
-  linked_start = record {
-    amounts = sym (append-nil xs);
-    rows = sym (append-nil (front 0) ∙ take-append-drop low rs);
-  }
-
   module _ (qs : List Row) (ys : List (List ℕ)) (j : ℕ) (so_far : Linked put wanted q low rs qs xs ys j) where
     abbrev seen : List (List ℕ)
     seen = ends wanted (take j station)
-
-    -- one row a node
-    pub linked_paired : length qs ≡ length ys
-    linked_paired =
-        ap length so_far.rows ∙ length-append (front j) (map (λ _. q) seen)
-        ∙ omega (arith, length_front j, length-map seen (λ (_ : List ℕ). q), ap length so_far.amounts ∙ length-append xs seen)
 
     pub linked_length : length ys ≡ length xs + length seen
     linked_length = ap length so_far.amounts ∙ length-append xs seen

@@ -1,5 +1,5 @@
 -- The loop over the items, and the last item.
-use Rattle.std.proofs.Common.{◌≡◌, ℕ, suc, ◌+◌, ◌<◌, List, [], length, get_or, Some, None, Option, ap, arith, MatchOption}
+use Rattle.std.proofs.Common.{◌≡◌, ℕ, suc, ◌+◌, ◌<◌, List, [], ◌∷◌, ◌++◌, length, get_or, Some, None, Option, ap, ◌∙◌, arith, length-append, MatchOption}
 use Rattle.limits.specs.Meaning.{Meaning}
 use Rattle.lists.specs.Entries.{entries}
 use Rattle.packing.specs.declared.Item.{Item as Given}
@@ -14,7 +14,7 @@ use Rattle.compile.specs.Drafts.{GrewBoth, Short}
 use Rattle.compile.specs.Items.{Weighs, nodes_of, next_of, Followed, Ended}
 use Rattle.compile.specs.Build.{items_of, Built}
 use Rattle.compile.proofs.Growth.{grew_both_trans, short_more, short_back}
-use Rattle.compile.proofs.Orders.{number_of_items, item_at}
+use Rattle.compile.proofs.Orders.{number_of_items, inner_is, item_at}
 use Rattle.compile.proofs.Begun.{Begun, packed, begun_more, begun_within, begun_count, begun_last}
 
 module _ {L : Type 0} (f : L → List ℕ) (k : Meaning) (its : List Given) where
@@ -34,6 +34,19 @@ module _ {L : Type 0} (f : L → List ℕ) (k : Meaning) (its : List Given) wher
     pub grew : GrewBoth b c
     pub begun : Begun f k its_of j low c
     pub weighs : Weighs f k given (j + 1) x
+
+  -- at one of the items before the last
+  pub here_inner : (b c : Draft L) (j low : ℕ) (x : Weighed L) (d last : Given) (inner : List Given) → flaw k (orders_of its) ≡ None
+      → its ≡ inner ++ last ∷ [] → j < length inner → GrewBoth b c → Begun f k its_of j low c → Weighs f k (get_or inner j d) (j + 1) x → Here b c j low x d (get_or inner j d)
+  here_inner b c j low x d last inner sound split lt grew begun weighs =
+      record {
+        sound = sound;
+        inside = omega (arith, ap length split ∙ length-append inner (last ∷ []));
+        read = inner_is its inner last d j split lt;
+        grew = grew;
+        begun = begun;
+        weighs = weighs;
+      }
 
   module _ (b c : Draft L) (j low : ℕ) (x : Weighed L) (d given : Given) (here : Here b c j low x d given) where
     item : get_or its_of j (packed f x) ≡ packed f x

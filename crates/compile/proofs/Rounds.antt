@@ -12,8 +12,8 @@ use Rattle.compile.specs.Drafts.{GrewBoth, Short, amounts}
 use Rattle.compile.specs.Steps.{taking}
 use Rattle.compile.specs.Arcs.{ends, Linked, Leads}
 use Rattle.compile.specs.Items.{Opened, nodes_of, Stations}
-use Rattle.compile.proofs.Growth.{grew_both_same, grew_both_trans, short_more, short_back}
-use Rattle.compile.proofs.Copies.{Copies, copies_start, copies_length, copies_next, copies_more, copies_end, copies_within}
+use Rattle.compile.proofs.Growth.{grew_both_trans, short_more, short_back}
+use Rattle.compile.proofs.Copies.{Copies, copies_length, copies_next, copies_more, copies_end, copies_within}
 
 module _ {L : Type 0} (f : L → List ℕ) (k : Meaning) (x : Weighed L) (low : ℕ) (b : Draft L) where
   -- c is the graph now, with the stations of less than m copies; the last of them begins at `from`
@@ -31,13 +31,6 @@ module _ {L : Type 0} (f : L → List ℕ) (k : Meaning) (x : Weighed L) (low : 
 
     even : length (entries b.rows) ≡ length (amounts f b)
     even = b.paired ∙ sym long_b
-
-    pub round_start : Round b 1 low
-    round_start = record {
-      kept = grew_both_same b;
-      made = copies_start k (f x.weight) x.number low (entries b.rows) (amounts f b) low_in even opened.first;
-      reach = omega arith;
-    }
 
     module _ (c : Draft L) (m from : ℕ) (round : Round c m from) where
       pub round_within : from ≤ length (entries c.loads)

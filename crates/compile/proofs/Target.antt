@@ -1,7 +1,7 @@
 -- Pass arcs to the target, led one after the other.
-use Rattle.std.proofs.Common.{◌≡◌, ℕ, ◌+◌, ◌-◌, ◌<◌, ◌≤◌, List, [], ◌∷◌, ◌++◌, map, length, get_or, take, drop, set, sym, ap, ◌∙◌, arith, length-append, length-drop, take-append-drop}
+use Rattle.std.proofs.Common.{◌≡◌, ℕ, ◌+◌, ◌-◌, ◌<◌, ◌≤◌, List, [], ◌∷◌, ◌++◌, map, length, get_or, take, drop, set, sym, ap, ◌∙◌, arith, length-append, length-drop}
 use lib.ListN.{length-map}
-use Rattle.std.proofs.lemmas.List.{append_assoc, append-nil, map_more, drop_more, get_or_at, set_at, get_or-drop, take_all, drop_all, length-take-le}
+use Rattle.std.proofs.lemmas.List.{append_assoc, map_more, drop_more, get_or_at, set_at, get_or-drop, length-take-le}
 use Rattle.graph.specs.declared.Row.{Row}
 use Rattle.graph.specs.Graph.{at, blank}
 
@@ -9,12 +9,6 @@ module _ (p : Row → Row) (rs : List Row) (low : ℕ) where
   -- the rows from `low` on, below n, are changed
   abbrev pub Reached : List Row → ℕ → Type 0
   Reached qs n = qs ≡ (take low rs ++ map p (take (n - low) (drop low rs))) ++ drop n rs
-
-  pub reached_start : Reached rs low
-  reached_start =
-      let none : low - low ≡ 0 = omega arith in
-      sym (ap (λ (n : ℕ). (take low rs ++ map p (take n (drop low rs))) ++ drop low rs) none
-      ∙ ap (λ (l : List Row). l ++ drop low rs) (append-nil (take low rs)) ∙ take-append-drop low rs)
 
   pub reached_more : (qs : List Row) (n : ℕ) → low ≤ n → n < length rs → Reached qs n → Reached (set qs n (p (at qs n))) (n + 1)
   reached_more qs n from lt is =
@@ -37,9 +31,3 @@ module _ (p : Row → Row) (rs : List Row) (low : ℕ) where
       ∙ ap (λ (r : Row). take low rs ++ (map p (take j rest) ++ p r ∷ [])) (sym here)
       ∙ ap (λ (l : List Row). take low rs ++ l) (sym (map_more p rest j blank inside))
       ∙ ap (λ (i : ℕ). take low rs ++ map p (take i rest)) (sym next))
-
-  pub reached_end : (qs : List Row) (n : ℕ) → length rs ≤ n → Reached qs n → qs ≡ take low rs ++ map p (drop low rs)
-  reached_end qs n le is =
-      is ∙ ap (λ (l : List Row). (take low rs ++ map p (take (n - low) (drop low rs))) ++ l) (drop_all n rs le)
-      ∙ append-nil (take low rs ++ map p (take (n - low) (drop low rs)))
-      ∙ ap (λ (l : List Row). take low rs ++ map p l) (take_all (n - low) (drop low rs) (omega (arith, length-drop low rs)))

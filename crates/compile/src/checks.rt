@@ -20,7 +20,7 @@ fn fits_alone<K: Kind>(kind: &K, item: &Item<'_>) -> bool
 fn is_fair<K: Kind>(kind: &K, item: &Item<'_>) -> bool
     ensures { result ≡ fair (K.meaning kind.now) (order_of item.now) }
 {
-    1 <= item.demand && item.demand <= MAX_DEMAND && fits_alone(kind, item)
+    (1..=MAX_DEMAND).contains(&item.demand) && fits_alone(kind, item)
 }
 
 // Refuses items with which something is wrong: none or too many of them, or else the lowest that is not fair.

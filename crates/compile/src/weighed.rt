@@ -27,6 +27,7 @@ impl<L: Copy> Weighed<L> {
         requires { number ≤ 64 }
         ensures { MatchOption result (None ≡ (K.meaning kind.now).weight (fields_of item.now)) (Weighs K.amount (K.meaning kind.now) item.now number) }
     {
+        // No `map`: in its closure the ghost field is not proved.
         let weight = kind.weigh(item.fields())?;
         Some(Weighed {
             number,

@@ -12,7 +12,7 @@ use crate::step::Step;
 use graph::Row;
 use limits::kind::Kind;
 
-// Whether two loads have equal amounts.
+// Whether two loads have equal amounts, by an equation: `position` needs one of its test.
 fn same<K: Kind>(kind: &K, a: &K::Load, b: &K::Load) -> bool
     ensures { result ≡ same_list (K.amount a.now) (K.amount b.now) }
 {

@@ -1,9 +1,6 @@
 use Rattle.std.proofs.Common.{arith}
-use Rattle.compile.proofs.Turns.{turn_start, turn_more, turn_short}
+use Rattle.compile.proofs.Turns.{turn_more, turn_short}
 use Rattle.compile.proofs.draft.Draft.arcs.Goals as goal
-
-pub loop-n-init : goal.loop-n-init
-loop-n-init g c = let k = g.K.Kind in turn_start k.amount (k.meaning c.args.kind.now) c.args.step.now c.args.row c.args.low c.args.self.now c.requires
 
 pub loop-n-preserved : goal.loop-n-preserved
 loop-n-preserved g c =
