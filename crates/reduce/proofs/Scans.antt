@@ -1,5 +1,5 @@
 -- The search for a node's class: from row to row, and where it may stop.
-use Rattle.std.proofs.Common.{◌≡◌, ℕ, suc, ◌+◌, ◌-◌, ◌<◌, ◌≤◌, Bool, true, false, cond, Some, Option, List, [], ◌∷◌, find, take_while, length, get_or, drop, set, sym, refl, ap, ◌∙◌, inl, inr, arith}
+use Rattle.std.proofs.Common.{◌≡◌, ℕ, suc, ◌+◌, ◌-◌, ◌<◌, ◌≤◌, Bool, true, false, cond, ◌&&◌, eqb, Some, Option, List, [], ◌∷◌, find, take_while, length, get_or, drop, set, sym, refl, ap, ◌∙◌, inl, inr, arith}
 use Rattle.std.proofs.lemmas.List.{drop-set, get_or-drop, length-drop}
 use Rattle.std.proofs.lemmas.List.Sums.{take_while-cons}
 use Rattle.std.specs.List.{zip}
@@ -11,7 +11,11 @@ use Rattle.graph.specs.Reduced.{led, same_row, class, joins, classed, classes}
 use Rattle.graph.proofs.Joined.{same_row_from, led_same}
 use Rattle.graph.proofs.Reduce.{arcs_ahead}
 use Rattle.graph.proofs.Steps.{classes_more}
-use Rattle.reduce.specs.Reducing.{same_station, node_class, to}
+use Rattle.reduce.specs.Reducing.{node_class, to}
+
+-- whether two rows are of nodes of one station
+abbrev pub same_station : Row → Row → Bool
+same_station r q = eqb r.item q.item && eqb r.copies q.copies
 
 rows_differ : (r q : Row) → (r ≡ q → ⊥) → same_row r q ≡ false
 rows_differ r q ne = go (same_row r q) refl

@@ -1,5 +1,5 @@
 -- What the steps of a reduction in place leave.
-use Rattle.std.specs.Prelude.{◌≡◌, ℕ, zero, suc, ◌+◌, ◌≤◌, Bool, ◌==◌, ◌&&◌, List, length, map, drop, nat_eq, slice_index_or, slice_set}
+use Rattle.std.specs.Prelude.{◌≡◌, ℕ, zero, suc, ◌+◌, ◌≤◌, List, length, map, drop, nat_eq, slice_index_or, slice_set}
 use Rattle.graph.specs.declared.Row.{Row}
 use Rattle.packing.specs.Distinct.{distinct, index}
 use Rattle.graph.specs.Graph.{at, Layered}
@@ -14,10 +14,6 @@ pub record Labelled (g : List Row) (labels : List ℕ) : Type 0 where
   pub shaped : Shaped g
   pub few : length g ≤ 65535
   pub one_each : length labels ≡ length g
-
--- whether two rows are of nodes of one station
-abbrev pub same_station : Row → Row → Bool
-same_station r q = r.item == q.item && r.copies == q.copies
 
 -- the entry at t; past the end, t itself
 abbrev pub to : List ℕ → ℕ → ℕ

@@ -8,8 +8,8 @@ use Rattle.std.proofs.lemmas.Iterator.Search.{YieldsList-from_take_while, find_f
 use Rattle.graph.specs.declared.Row.{Row}
 use Rattle.graph.specs.Graph.{at}
 use Rattle.graph.specs.Reduced.{led, same_row}
-use Rattle.reduce.specs.Reducing.{same_station, to}
-use Rattle.reduce.proofs.Scans.{class_found}
+use Rattle.reduce.specs.Reducing.{to}
+use Rattle.reduce.proofs.Scans.{class_found, same_station}
 use Rattle.reduce.proofs.find_class.Goals as goal
 
 pub returns : goal.returns
