@@ -26,22 +26,41 @@ fn check_refused(rt: &impl Abort, alloc: Global, cases: &[Refused]) -> Result<()
     Ok(())
 }
 
+// A test for each table: its name tells which one failed.
 #[test]
-fn refusals(rt: HostRuntime) -> Result<(), Fail> {
-    let tables = [
-        &BAD_BYTES[..],
-        &NO_NUMBERS[..],
-        &WRONG_FIELD_COUNTS[..],
-        &UNKNOWN_LETTERS[..],
-        &OUT_OF_RANGE[..],
-        &BAD_NAMES[..],
-        &MALFORMED[..],
-        &WRONG_LINE_COUNTS[..],
-    ];
-    for table in tables {
-        check_refused(&rt, rt.alloc(), table)?;
-    }
-    Ok(())
+fn bytes(rt: HostRuntime) -> Result<(), Fail> {
+    check_refused(&rt, rt.alloc(), &BAD_BYTES)
+}
+
+#[test]
+fn numbers(rt: HostRuntime) -> Result<(), Fail> {
+    check_refused(&rt, rt.alloc(), &NO_NUMBERS)
+}
+
+#[test]
+fn field_counts(rt: HostRuntime) -> Result<(), Fail> {
+    check_refused(&rt, rt.alloc(), &WRONG_FIELD_COUNTS)
+}
+
+#[test]
+fn letters(rt: HostRuntime) -> Result<(), Fail> {
+    check_refused(&rt, rt.alloc(), &UNKNOWN_LETTERS)
+}
+
+#[test]
+fn ranges(rt: HostRuntime) -> Result<(), Fail> {
+    check_refused(&rt, rt.alloc(), &OUT_OF_RANGE)
+}
+
+#[test]
+fn names(rt: HostRuntime) -> Result<(), Fail> {
+    check_refused(&rt, rt.alloc(), &BAD_NAMES)
+}
+
+#[test]
+fn ends(rt: HostRuntime) -> Result<(), Fail> {
+    check_refused(&rt, rt.alloc(), &MALFORMED)?;
+    check_refused(&rt, rt.alloc(), &WRONG_LINE_COUNTS)
 }
 
 // A text of line feeds only: its first line is empty, unless the text is too long.
