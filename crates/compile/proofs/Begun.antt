@@ -15,7 +15,7 @@ use Rattle.graph.proofs.Room.{prefix_length, pass_prefix}
 use Rattle.compile.specs.declared.draft.Draft.{Draft}
 use Rattle.compile.specs.declared.weighed.Weighed.{Weighed}
 use Rattle.compile.specs.Drafts.{amounts}
-use Rattle.compile.specs.Items.{Opened, nodes_of, rows_of, next_of, Followed, Ended}
+use Rattle.compile.specs.Items.{Opened, nodes_of, next_of, Followed, Ended}
 use Rattle.compile.specs.Build.{Untargeted}
 
 -- an item with its weight, as it is packed

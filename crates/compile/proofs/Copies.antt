@@ -88,7 +88,7 @@ module _ (k : Meaning) (w : List ℕ) where
       pub amounts : ys ≡ take low xs ++ (lower c station ++ stage k w c station)
       pub rows : qs ≡ take low rs ++ (done c ++ map (λ _. row i c None None) (stage k w c station))
 
-    module _ (within : low ≤ length xs) (paired : length rs ≡ length xs) (first : drop low rs ≡ map (λ _. row i 0 None None) (drop low xs)) where
+    module _ (within : low ≤ length xs) (paired : length rs ≡ length xs) where
       module _ (qs : List Row) (ys : List (List ℕ)) (c from : ℕ) (so_far : Copies qs ys c from) where
         abbrev here : List (List ℕ)
         here = stage k w c station

@@ -1,7 +1,6 @@
 -- Arcs led one after the other: one node more.
 use Rattle.std.proofs.Common.{◌≡◌, ℕ, zero, suc, ◌+◌, ◌-◌, ◌<◌, ◌≤◌, Bool, true, false, cond, List, [], ◌∷◌, ◌++◌, map, length, get_or, take, drop, set, Some, None, Option, sym, refl, ap, ◌∙◌, arith, length-append, length-drop, take-append-drop}
 use lib.ListN.{length-map}
-use Rattle.std.specs.Option.{option_map}
 use Rattle.std.proofs.lemmas.List.{append_assoc, append-nil, map-append, take_more, take_at, drop_at, length-take-le, set-append_left, set-append_right, get_or_append_left, get_or-append_right, set-get_or}
 use Rattle.std.proofs.lemmas.Bool.{or_right}
 use Rattle.lists.specs.Entries.{entries}

@@ -51,9 +51,7 @@ module _ (k : Meaning) (w : List ℕ) where
       let here = map (row_taking k w (λ _. None) i c (o + length s) t) s in
       let next = item_rows k w (λ _. None) i (suc c) b (o + length s) t in
       linked_append passing (λ a. Some (to a)) here next s (layer k w b t) (length-map s (row_taking k w (λ _. None) i c (o + length s) t))
-      ∙ ap (λ (l : List Row). l ++ linked passing (λ a. Some (to a)) (length (layer k w b t)) next (layer k w b t))
-      (linked_map passing (λ a. Some (to a)) (row_taking k w (λ _. None) i c (o + length s) t) s)
-      ∙ ap (λ (l : List Row). map (row_taking k w (λ a. Some (to a)) i c (o + length s) t) s ++ l) (passed to i (suc c) b (o + length s) t)
+      ∙ rw (linked_map passing (λ a. Some (to a)) (row_taking k w (λ _. None) i c (o + length s) t) s, passed to i (suc c) b (o + length s) t) refl
 
 -- x is the item, b the graph before it, and c that with all its stations
 module _ {L : Type 0} (f : L → List ℕ) (k : Meaning) (x : Weighed L) (low : ℕ) (b c : Draft L) (within : low ≤ length (entries b.loads)) (made : Stations f k x low b c) where

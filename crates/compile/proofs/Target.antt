@@ -1,5 +1,5 @@
 -- Pass arcs to the target, led one after the other.
-use Rattle.std.proofs.Common.{◌≡◌, ℕ, ◌+◌, ◌-◌, ◌<◌, ◌≤◌, List, [], ◌∷◌, ◌++◌, map, length, get_or, take, drop, set, sym, ap, ◌∙◌, arith, length-append, length-drop}
+use Rattle.std.proofs.Common.{◌≡◌, ℕ, ◌+◌, ◌-◌, ◌<◌, ◌≤◌, List, ◌∷◌, ◌++◌, map, length, get_or, take, drop, set, ap, ◌∙◌, arith, length-append, length-drop}
 use lib.ListN.{length-map}
 use Rattle.std.proofs.lemmas.List.{append_assoc, map_more, drop_more, get_or_at, set_at, get_or-drop, length-take-le}
 use Rattle.graph.specs.declared.Row.{Row}
