@@ -15,7 +15,7 @@ use Rattle.graph.proofs.Room.{prefix_length, pass_prefix}
 use Rattle.compile.specs.declared.draft.Draft.{Draft}
 use Rattle.compile.specs.declared.weighed.Weighed.{Weighed}
 use Rattle.compile.specs.Drafts.{amounts}
-use Rattle.compile.specs.Items.{Opened, nodes_of, rows_of, next_of, Followed, Ended}
+use Rattle.compile.specs.Items.{Opened, nodes_of, next_of, Followed, Ended}
 use Rattle.compile.specs.Build.{Untargeted}
 
 -- an item with its weight, as it is packed
@@ -100,18 +100,8 @@ module _ {L : Type 0} (f : L → List ℕ) (k : Meaning) (items : List Item) whe
               within = omega (arith, long, length-map (entries c.loads) f);
               first = rows_back ∙ ap (map (λ _. row (j + 1 + 1) 0 None None)) (sym loads_back);
             };
-            rows = begun.rows ∙ ap (λ (l : List Item). take low rs ++ rows_from k (suc j) low station l) two
-                ∙ ap (λ (o : ℕ). take low rs ++ (item_rows k (f x.weight) (to o) (suc j) 0 x.most low station ++ rows_from k (suc (suc j)) o next (y ∷ others))) (sym made.begins)
-                ∙ ap (λ (i : ℕ). take low rs ++ (item_rows k (f x.weight) (to n) i 0 x.most low station ++ rows_from k (suc i) n next (y ∷ others))) one
-                ∙ sym (append_assoc (take low rs) done (rows_from k (suc (j + 1)) n next (y ∷ others)))
-                ∙ ap (λ (l : List Row). l ++ rows_from k (suc (j + 1)) n next (y ∷ others)) (sym rows_front)
-                ∙ ap (λ (l : List (List ℕ)). take n qs ++ rows_from k (suc (j + 1)) n l (y ∷ others)) (sym loads_back)
-                ∙ ap (λ (l : List Item). take n qs ++ rows_from k (suc (j + 1)) n (drop n ys) l) (sym rest);
-            loads_are = begun.loads_are ∙ ap (λ (l : List Item). take low xs ++ loads_from k station l) two
-                ∙ sym (append_assoc (take low xs) all (loads_from k next (y ∷ others)))
-                ∙ ap (λ (l : List (List ℕ)). l ++ loads_from k next (y ∷ others)) (sym loads_front)
-                ∙ ap (λ (l : List (List ℕ)). take n ys ++ loads_from k l (y ∷ others)) (sym loads_back)
-                ∙ ap (λ (l : List Item). take n ys ++ loads_from k (drop n ys) l) (sym rest);
+            rows = begun.rows ∙ rw (two, ← made.begins, one, rows_front, loads_back, rest) (sym (append_assoc (take low rs) done (rows_from k (suc (j + 1)) n next (y ∷ others))));
+            loads_are = begun.loads_are ∙ rw (two, loads_front, loads_back, rest) (sym (append_assoc (take low xs) all (loads_from k next (y ∷ others))));
           }
 
       -- the graph has at least the nodes up to the next item's first station
@@ -144,10 +134,7 @@ module _ {L : Type 0} (f : L → List ℕ) (k : Meaning) (items : List Item) whe
           let number_is : x.number ≡ suc j = omega (arith, number) in
           let target_is : suc (length items) ≡ suc (suc j) = omega (arith, last) in
           record {
-            rows = ap (λ (l : List Row). l ++ row (suc (length items)) 0 None None ∷ []) made.rows
-                ∙ append_assoc (take low rs) (rows_of f k x low b to) (row (suc (length items)) 0 None None ∷ [])
-                ∙ ap (λ (i : ℕ). take low rs ++ (item_rows k (f x.weight) to i 0 x.most low station ++ row (suc (length items)) 0 None None ∷ [])) number_is
-                ∙ ap (λ (i : ℕ). take low rs ++ (item_rows k (f x.weight) to (suc j) 0 x.most low station ++ row i 0 None None ∷ [])) target_is
-                ∙ sym (begun.rows ∙ ap (λ (l : List Item). take low rs ++ rows_from k (suc j) low station l) alone);
+            rows = rw (begun.rows, alone, made.rows, number_is, target_is)
+                (append_assoc (take low rs) (item_rows k (f x.weight) to (suc j) 0 x.most low station) (row (suc (suc j)) 0 None None ∷ []));
             amounts = made.loads ∙ sym whole_loads;
           }

@@ -88,7 +88,7 @@ module _ (k : Meaning) (w : List ℕ) where
       pub amounts : ys ≡ take low xs ++ (lower c station ++ stage k w c station)
       pub rows : qs ≡ take low rs ++ (done c ++ map (λ _. row i c None None) (stage k w c station))
 
-    module _ (within : low ≤ length xs) (paired : length rs ≡ length xs) (first : drop low rs ≡ map (λ _. row i 0 None None) (drop low xs)) where
+    module _ (within : low ≤ length xs) (paired : length rs ≡ length xs) where
       module _ (qs : List Row) (ys : List (List ℕ)) (c from : ℕ) (so_far : Copies qs ys c from) where
         abbrev here : List (List ℕ)
         here = stage k w c station
@@ -149,28 +149,20 @@ module _ (k : Meaning) (w : List ℕ) where
             let to_is : ends sum_of (drop from ys) ≡ t = ap (ends sum_of) last_amounts ∙ next_stage in
             let arcs : linked taking (arc sum_of (length ys) (ends sum_of (drop from ys))) (n - from) (drop from qs) (drop from ys)
             ≡ map (row_taking k w (λ _. None) i c (low + length (layer k w c station)) t) here =
-            ap (λ (l : List (List ℕ)). linked taking (arc sum_of (length ys) l) (n - from) (drop from qs) (drop from ys)) to_is
-            ∙ ap (λ (m : ℕ). linked taking (arc sum_of m t) (n - from) (drop from qs) (drop from ys)) o
-            ∙ ap (λ (m : ℕ). linked taking (arc sum_of (low + length (layer k w c station)) t) m (drop from qs) (drop from ys)) count
-            ∙ ap (λ (l : List Row). linked taking (arc sum_of (low + length (layer k w c station)) t) (length here) l (drop from ys)) last_rows
-            ∙ ap (linked taking (arc sum_of (low + length (layer k w c station)) t) (length here) (map (λ _. row i c None None) here)) last_amounts
-            ∙ linked_map taking (arc sum_of (low + length (layer k w c station)) t) (λ _. row i c None None) here
+            rw (to_is, o, count, last_rows, last_amounts)
+            (linked_map taking (arc sum_of (low + length (layer k w c station)) t) (λ _. row i c None None) here
             ∙ map_same (λ a. led_to taking (arc sum_of (low + length (layer k w c station)) t a) (row i c None None)) (row_taking k w (λ _. None) i c (low + length (layer k w c station)) t)
-            (taken_row i c (low + length (layer k w c station)) t) here in
+            (taken_row i c (low + length (layer k w c station)) t) here) in
             let zero-add : 0 + c ≡ c = omega arith in
             let more : done (suc c) ≡ done c ++ map (row_taking k w (λ _. None) i c (low + length (layer k w c station)) t) here =
             taking_rows_more k w (λ _. None) i 0 c low station
-            ∙ ap (λ (m : ℕ). done c ++ map (row_taking k w (λ _. None) i m (low + length (layer k w c station)) t) here) zero-add in
+            ∙ rw zero-add refl in
             record {
               begins = long ∙ copies_length ∙ omega (arith, so_far.begins, ap length (lower_more c station) ∙ length-append (lower c station) here);
               amounts = made.amounts ∙ ap (λ (l : List (List ℕ)). ys ++ l) new ∙ ap (λ (l : List (List ℕ)). l ++ t) so_far.amounts
                   ∙ append_assoc (take low xs) (lower c station ++ here) t ∙ ap (λ (l : List (List ℕ)). take low xs ++ (l ++ t)) (sym (lower_more c station));
-              rows = made.rows ∙ ap (λ (l : List (List ℕ)). (take from qs ++ linked taking (arc sum_of (length ys) (ends sum_of (drop from ys))) (n - from) (drop from qs) (drop from ys)) ++ map (λ _. q) l) new
-                  ∙ ap (λ (l : List Row). (take from qs ++ l) ++ map (λ _. q) t) arcs
-                  ∙ ap (λ (l : List Row). (l ++ map (row_taking k w (λ _. None) i c (low + length (layer k w c station)) t) here) ++ map (λ _. q) t) first_rows
-                  ∙ ap (λ (l : List Row). l ++ map (λ _. q) t) (append_assoc (take low rs) (done c) (map (row_taking k w (λ _. None) i c (low + length (layer k w c station)) t) here))
-                  ∙ ap (λ (l : List Row). (take low rs ++ l) ++ map (λ _. q) t) (sym more)
-                  ∙ append_assoc (take low rs) (done (suc c)) (map (λ _. q) t);
+              rows = made.rows ∙ rw (new, arcs, first_rows, more)
+                  (simp append_assoc);
             }
 
         pub copies_end : (b : ℕ) → c ≡ b → (ys ≡ take low xs ++ layer k w b station) × (qs ≡ take low rs ++ item_rows k w (λ _. None) i 0 b low station)

@@ -1,7 +1,6 @@
 -- Arcs led one after the other: one node more.
 use Rattle.std.proofs.Common.{◌≡◌, ℕ, zero, suc, ◌+◌, ◌-◌, ◌<◌, ◌≤◌, Bool, true, false, cond, List, [], ◌∷◌, ◌++◌, map, length, get_or, take, drop, set, Some, None, Option, sym, refl, ap, ◌∙◌, arith, length-append, length-drop, take-append-drop}
 use lib.ListN.{length-map}
-use Rattle.std.specs.Option.{option_map}
 use Rattle.std.proofs.lemmas.List.{append_assoc, append-nil, map-append, take_more, take_at, drop_at, length-take-le, set-append_left, set-append_right, get_or_append_left, get_or-append_right, set-get_or}
 use Rattle.std.proofs.lemmas.Bool.{or_right}
 use Rattle.lists.specs.Entries.{entries}
@@ -130,11 +129,10 @@ module _ (put : ℕ → Row → Row) (wanted : List ℕ → Option (List ℕ)) (
       linked_none ps zs is e f =
           let same : ends wanted (take (j + 1) station) ≡ seen = ends_none wanted station j lt is in
           let kept : front (j + 1) ≡ front j =
-          front_more j lt ∙ ap (λ (o : Option (List ℕ)). set (front j) (low + j) (led_to put (option_map (λ y. length xs + place y (ends wanted station)) o) (get_or (front j) (low + j) blank))) is
-          ∙ set-get_or (front j) (low + j) blank in
+          front_more j lt ∙ rw is (set-get_or (front j) (low + j) blank) in
           record {
-            amounts = f ∙ so_far.amounts ∙ ap (λ (l : List (List ℕ)). xs ++ l) (sym same);
-            rows = e ∙ so_far.rows ∙ ap (λ (l : List Row). l ++ map (λ _. q) seen) (sym kept) ∙ ap (λ (l : List (List ℕ)). front (j + 1) ++ map (λ _. q) l) (sym same);
+            amounts = f ∙ so_far.amounts ∙ rw same refl;
+            rows = e ∙ so_far.rows ∙ rw (kept, same) refl;
           }
 
       linked_some : (x : List ℕ) (ms ps : List Row) (zs : List (List ℕ)) (t : ℕ) → wanted (get_or station j []) ≡ Some x → Noted qs ms ys zs (length xs) x q t
@@ -144,26 +142,21 @@ module _ (put : ℕ → Row → Row) (wanted : List ℕ → Option (List ℕ)) (
           let news = map (λ (_ : List ℕ). q) (noted same_list seen x) in
           let inside : low + j < length (front j) = omega (arith, length_front j, length-drop low xs, lt) in
           let grown : ms ≡ front j ++ news =
-          found.rows ∙ ap (λ (l : List (List ℕ)). cond (has same_list x l) qs (qs ++ q ∷ [])) past
-          ∙ ap (λ (l : List Row). cond (has same_list x seen) l (l ++ q ∷ [])) so_far.rows ∙ pushed (has same_list x seen) in
-          let row_is : at ms (low + j) ≡ get_or (front j) (low + j) blank = ap (λ (l : List Row). at l (low + j)) grown ∙ get_or_append_left (front j) news blank (low + j) inside in
+          found.rows ∙ rw (past, so_far.rows) (pushed (has same_list x seen)) in
+          let row_is : at ms (low + j) ≡ get_or (front j) (low + j) blank = rw grown (get_or_append_left (front j) news blank (low + j) inside) in
           let end : t ≡ length xs + place x (ends wanted station) =
-          found.place ∙ ap (λ (l : List (List ℕ)). length xs + index same_list x (noted same_list l x)) past ∙ ap (λ (n : ℕ). length xs + n) (sym (ends_place wanted station j lt x is)) in
+          found.place ∙ rw (past, ends_place wanted station j lt x is) refl in
           let put_is : put t (at ms (low + j)) ≡ led_to put (to (get_or station j [])) (get_or (front j) (low + j) blank) =
-          ap (λ (n : ℕ). put n (at ms (low + j))) end ∙ ap (put (length xs + place x (ends wanted station))) row_is
-          ∙ ap (λ (o : Option (List ℕ)). led_to put (option_map (λ y. length xs + place y (ends wanted station)) o) (get_or (front j) (low + j) blank)) (sym is) in
+          rw (end, row_is, is) refl in
           record {
-            amounts = found.amounts ∙ ap (λ (l : List (List ℕ)). l ++ noted same_list (drop (length xs) ys) x) before
-                ∙ ap (λ (l : List (List ℕ)). xs ++ noted same_list l x) past ∙ ap (λ (l : List (List ℕ)). xs ++ l) (sym next);
-            rows = e ∙ ap (set ms (low + j)) put_is ∙ ap (λ (l : List Row). set l (low + j) (led_to put (to (get_or station j [])) (get_or (front j) (low + j) blank))) grown
-                ∙ set-append_left (front j) news (low + j) _ inside ∙ ap (λ (l : List Row). l ++ news) (sym (front_more j lt))
-                ∙ ap (λ (l : List (List ℕ)). front (j + 1) ++ map (λ _. q) l) (sym next);
+            amounts = found.amounts ∙ rw (before, past, next) refl;
+            rows = e ∙ rw (put_is, grown, next, front_more j lt) (set-append_left (front j) news (low + j) _ inside);
           }
         where
           pushed : (b : Bool) → cond b (front j ++ map (λ _. q) seen) ((front j ++ map (λ _. q) seen) ++ q ∷ []) ≡ front j ++ map (λ _. q) (cond b seen (seen ++ x ∷ []))
           pushed true = refl
           pushed false =
-              append_assoc (front j) (map (λ _. q) seen) (q ∷ []) ∙ ap (λ (l : List Row). front j ++ l) (sym (map-append (λ (_ : List ℕ). q) seen (x ∷ [])))
+              simp (append_assoc, map-append)
 
       pub linked_step : (o : Option (List ℕ)) (n : ℕ) (ps : List Row) (zs : List (List ℕ)) → wanted (get_or station j []) ≡ o → n ≡ low + j
           → Led put o q (length xs) n qs ps ys zs → Linked put wanted q low rs ps xs zs (j + 1)

@@ -51,9 +51,7 @@ module _ (k : Meaning) (w : List ℕ) where
       let here = map (row_taking k w (λ _. None) i c (o + length s) t) s in
       let next = item_rows k w (λ _. None) i (suc c) b (o + length s) t in
       linked_append passing (λ a. Some (to a)) here next s (layer k w b t) (length-map s (row_taking k w (λ _. None) i c (o + length s) t))
-      ∙ ap (λ (l : List Row). l ++ linked passing (λ a. Some (to a)) (length (layer k w b t)) next (layer k w b t))
-      (linked_map passing (λ a. Some (to a)) (row_taking k w (λ _. None) i c (o + length s) t) s)
-      ∙ ap (λ (l : List Row). map (row_taking k w (λ a. Some (to a)) i c (o + length s) t) s ++ l) (passed to i (suc c) b (o + length s) t)
+      ∙ rw (linked_map passing (λ a. Some (to a)) (row_taking k w (λ _. None) i c (o + length s) t) s, passed to i (suc c) b (o + length s) t) refl
 
 -- x is the item, b the graph before it, and c that with all its stations
 module _ {L : Type 0} (f : L → List ℕ) (k : Meaning) (x : Weighed L) (low : ℕ) (b c : Draft L) (within : low ≤ length (entries b.loads)) (made : Stations f k x low b c) where
@@ -101,21 +99,11 @@ module _ {L : Type 0} (f : L → List ℕ) (k : Meaning) (x : Weighed L) (low : 
       let to_is : ends (λ a. Some a) (drop low (amounts f c)) ≡ t = ap (ends (λ a. Some a)) last_amounts ∙ ends_all all in
       let arcs : linked passing (arc (λ a. Some a) (length (amounts f c)) (ends (λ a. Some a) (drop low (amounts f c)))) (length (entries c.loads) - low) (drop low (entries c.rows)) (drop low (amounts f c))
       ≡ rows_of f k x low b (to n) =
-      ap (λ (l : List (List ℕ)). linked passing (arc (λ a. Some a) (length (amounts f c)) l) (length (entries c.loads) - low) (drop low (entries c.rows)) (drop low (amounts f c))) to_is
-      ∙ ap (λ (m : ℕ). linked passing (to m) (length (entries c.loads) - low) (drop low (entries c.rows)) (drop low (amounts f c))) (sym long)
-      ∙ ap (λ (m : ℕ). linked passing (to n) m (drop low (entries c.rows)) (drop low (amounts f c))) count
-      ∙ ap (λ (l : List Row). linked passing (to n) (length all) l (drop low (amounts f c))) last_rows
-      ∙ ap (linked passing (to n) (length all) bare) last_amounts
-      ∙ passed k (f x.weight) (λ a. n + place a t) x.number 0 x.most low (drop low (amounts f b)) in
+      rw (to_is, ← long, count, last_rows, last_amounts) (passed k (f x.weight) (λ a. n + place a t) x.number 0 x.most low (drop low (amounts f b))) in
       record {
         begins = leads.0 ∙ item_length;
         loads = led.amounts ∙ ap (λ (l : List (List ℕ)). amounts f c ++ l) new ∙ ap (λ (l : List (List ℕ)). l ++ t) made.loads ∙ append_assoc (take low (amounts f b)) all t;
-        rows = led.rows
-            ∙ ap (λ (l : List (List ℕ)). (take low (entries c.rows) ++ linked passing (arc (λ a. Some a) (length (amounts f c)) (ends (λ a. Some a) (drop low (amounts f c)))) (length (entries c.loads) - low) (drop low (entries c.rows)) (drop low (amounts f c))) ++ map (λ _. q) l) new
-            ∙ ap (λ (l : List Row). (take low (entries c.rows) ++ l) ++ map (λ _. q) t) arcs
-            ∙ ap (λ (l : List Row). (l ++ rows_of f k x low b (to n)) ++ map (λ _. q) t) first_rows
-            ∙ append_assoc (take low (entries b.rows)) (rows_of f k x low b (to n)) (map (λ _. q) t)
-            ∙ ap (λ (p : Row). take low (entries b.rows) ++ (rows_of f k x low b (to n) ++ map (λ _. p) t)) is;
+        rows = led.rows ∙ rw (new, arcs, first_rows, is) (append_assoc (take low (entries b.rows)) (rows_of f k x low b (to n)) (map (λ _. next) t));
       }
 
   -- the pass arcs to the target
@@ -123,11 +111,9 @@ module _ {L : Type 0} (f : L → List ℕ) (k : Meaning) (x : Weighed L) (low : 
   ended d led same =
       let h : length (entries c.rows) ≡ low + length all = c.paired ∙ item_length in
       let arcs : map (passing (length (entries c.rows))) (drop low (entries c.rows)) ≡ rows_of f k x low b (λ _. Some (low + length all)) =
-      ap (λ (m : ℕ). map (passing m) (drop low (entries c.rows))) h ∙ ap (map (passing (low + length all))) last_rows
-      ∙ linked_to passing (low + length all) bare all (length_item_rows k (f x.weight) (λ _. None) x.number 0 x.most low (drop low (amounts f b)))
-      ∙ passed k (f x.weight) (λ _. low + length all) x.number 0 x.most low (drop low (amounts f b)) in
+      rw (h, last_rows) (linked_to passing (low + length all) bare all (length_item_rows k (f x.weight) (λ _. None) x.number 0 x.most low (drop low (amounts f b)))
+      ∙ passed k (f x.weight) (λ _. low + length all) x.number 0 x.most low (drop low (amounts f b))) in
       record {
         loads = ap (λ (l : Grown L). map f (entries l)) same ∙ made.loads;
-        rows = led ∙ ap (λ (l : List Row). take low (entries c.rows) ++ l) arcs
-            ∙ ap (λ (l : List Row). l ++ rows_of f k x low b (λ _. Some (low + length all))) first_rows;
+        rows = led ∙ rw (arcs, first_rows) refl;
       }

@@ -1,5 +1,5 @@
 -- The loop over the copies of one item.
-use Rattle.std.proofs.Common.{◌≡◌, ℕ, suc, ◌+◌, ◌-◌, ◌≤◌, List, length, drop, Some, None, Option, sym, ap, ◌∙◌, subst, arith}
+use Rattle.std.proofs.Common.{◌≡◌, ℕ, suc, ◌+◌, ◌-◌, ◌≤◌, List, length, drop, Some, None, sym, refl, ◌∙◌, arith}
 use lib.ListN.{length-map}
 use Rattle.limits.specs.Meaning.{Meaning, joined}
 use Rattle.lists.specs.Entries.{entries}
@@ -9,8 +9,7 @@ use Rattle.compile.specs.declared.draft.Draft.{Draft}
 use Rattle.compile.specs.declared.step.Step.TheVariants.{Take}
 use Rattle.compile.specs.declared.weighed.Weighed.{Weighed}
 use Rattle.compile.specs.Drafts.{GrewBoth, Short, amounts}
-use Rattle.compile.specs.Steps.{taking}
-use Rattle.compile.specs.Arcs.{ends, Linked, Leads}
+use Rattle.compile.specs.Arcs.{ends, Leads}
 use Rattle.compile.specs.Items.{Opened, nodes_of, Stations}
 use Rattle.compile.proofs.Growth.{grew_both_trans, short_more, short_back}
 use Rattle.compile.proofs.Copies.{Copies, copies_length, copies_next, copies_more, copies_end, copies_within}
@@ -37,7 +36,7 @@ module _ {L : Type 0} (f : L → List ℕ) (k : Meaning) (x : Weighed L) (low : 
       round_within =
           omega (
             arith,
-            copies_length k (f x.weight) x.number low (entries b.rows) (amounts f b) low_in even opened.first (entries c.rows) (amounts f c) (m - 1) from round.made,
+            copies_length k (f x.weight) x.number low (entries b.rows) (amounts f b) low_in even (entries c.rows) (amounts f c) (m - 1) from round.made,
             length-map (entries c.loads) f,
           )
 
@@ -47,34 +46,30 @@ module _ {L : Type 0} (f : L → List ℕ) (k : Meaning) (x : Weighed L) (low : 
 
         pub round_more : (d : Draft L) (next : ℕ) (q : Row) → q ≡ row x.number m None None → GrewBoth c d → Leads f k (Take x.weight) q from c d (Some next) → Round d (m + 1) next
         round_more d next q is grew leads =
-            let to : List ℕ → Option (List ℕ) = λ a. joined k a (f x.weight) in
             let long : length (entries c.loads) ≡ next = sym leads.0 in
-            let after : suc (m - 1) ≡ m + 1 - 1 = omega arith in
-            let new : q ≡ row x.number (suc (m - 1)) None None = is ∙ ap (λ (j : ℕ). row x.number j None None) (sym here) in
-            let led = subst (λ (n : ℕ). Linked taking to q from (entries c.rows) (entries d.rows) (amounts f c) (amounts f d) (n - from)) long leads.1 in
+            let after : m + 1 - 1 ≡ suc (m - 1) = omega arith in
+            let new : q ≡ row x.number (suc (m - 1)) None None = is ∙ rw here refl in
             record {
               kept = grew_both_trans b c d round.kept grew;
-              made = subst (λ (j : ℕ). Copies k (f x.weight) x.number low (entries b.rows) (amounts f b) (entries d.rows) (amounts f d) j next) after
-                  (copies_more k (f x.weight) x.number low (entries b.rows) (amounts f b) low_in even opened.first (entries c.rows) (amounts f c) (m - 1) from round.made
-                  (entries d.rows) (amounts f d) next (leads.0 ∙ sym (length-map (entries c.loads) f))
-                  (subst (λ (p : Row). Linked taking to p from (entries c.rows) (entries d.rows) (amounts f c) (amounts f d) (next - from)) new led));
+              made = rw after (copies_more k (f x.weight) x.number low (entries b.rows) (amounts f b) low_in even (entries c.rows) (amounts f c) (m - 1) from round.made
+                  (entries d.rows) (amounts f d) next (leads.0 ∙ sym (length-map (entries c.loads) f)) (rw (long, new) at leads.1));
               reach = omega arith;
             }
 
         pub round_short : (d : Draft L) (q : Row) → Leads f k (Take x.weight) q from c d None → Short b (low + length (nodes_of f k x low b))
         round_short d q short =
-            let count = copies_next k (f x.weight) x.number low (entries b.rows) (amounts f b) low_in even opened.first (entries c.rows) (amounts f c) (m - 1) from round.made in
+            let count = copies_next k (f x.weight) x.number low (entries b.rows) (amounts f b) low_in even (entries c.rows) (amounts f c) (m - 1) from round.made in
             let all = length (entries c.loads) + length (ends (λ a. joined k a (f x.weight)) (drop from (amounts f c))) in
             short_more b all (low + length (nodes_of f k x low b))
             (omega (
               arith,
               count,
               length-map (entries c.loads) f,
-              copies_within k (f x.weight) x.number low (entries b.rows) (amounts f b) low_in even opened.first (m - 1) x.most (omega (arith, here)),
+              copies_within k (f x.weight) x.number low (entries b.rows) (amounts f b) low_in even (m - 1) x.most (omega (arith, here)),
             ))
             (short_back b c all round.kept short)
 
       pub round_end : m - 1 ≡ x.most → Stations f k x low b c
       round_end e =
-          let made = copies_end k (f x.weight) x.number low (entries b.rows) (amounts f b) low_in even opened.first (entries c.rows) (amounts f c) (m - 1) from round.made x.most e in
+          let made = copies_end k (f x.weight) x.number low (entries b.rows) (amounts f b) low_in even (entries c.rows) (amounts f c) (m - 1) from round.made x.most e in
           record { loads = made.0; rows = made.1 }

@@ -1,5 +1,5 @@
 -- Pass arcs to the target, led one after the other.
-use Rattle.std.proofs.Common.{◌≡◌, ℕ, ◌+◌, ◌-◌, ◌<◌, ◌≤◌, List, [], ◌∷◌, ◌++◌, map, length, get_or, take, drop, set, sym, ap, ◌∙◌, arith, length-append, length-drop}
+use Rattle.std.proofs.Common.{◌≡◌, ℕ, ◌+◌, ◌-◌, ◌<◌, ◌≤◌, List, ◌∷◌, ◌++◌, map, length, get_or, take, drop, set, ap, ◌∙◌, arith, length-append, length-drop}
 use lib.ListN.{length-map}
 use Rattle.std.proofs.lemmas.List.{append_assoc, map_more, drop_more, get_or_at, set_at, get_or-drop, length-take-le}
 use Rattle.graph.specs.declared.Row.{Row}
@@ -24,10 +24,4 @@ module _ (p : Row → Row) (rs : List Row) (low : ℕ) where
       let back : low + j ≡ n = omega arith in
       let here : get_or rest j blank ≡ x = get_or-drop low rs j blank ∙ ap (λ (i : ℕ). get_or rs i blank) back in
       let next : n + 1 - low ≡ j + 1 = omega arith in
-      ap (λ (r : Row). set qs n (p r)) row_is ∙ ap (λ (l : List Row). set l n (p x)) split ∙ set_at front x (drop (n + 1) rs) (p x) n long
-      ∙ sym (append_assoc front (p x ∷ []) (drop (n + 1) rs))
-      ∙ ap (λ (l : List Row). l ++ drop (n + 1) rs)
-      (append_assoc (take low rs) (map p (take j rest)) (p x ∷ [])
-      ∙ ap (λ (r : Row). take low rs ++ (map p (take j rest) ++ p r ∷ [])) (sym here)
-      ∙ ap (λ (l : List Row). take low rs ++ l) (sym (map_more p rest j blank inside))
-      ∙ ap (λ (i : ℕ). take low rs ++ map p (take i rest)) (sym next))
+      rw (row_is, split, next, map_more p rest j blank inside, here) (set_at front x (drop (n + 1) rs) (p x) n long ∙ simp append_assoc)
