@@ -7,9 +7,7 @@ ghost use Rattle.flow.specs.Scans.{Inflows, Upward, demands_of, holding};
 use crate::ItemRecord;
 use crate::flows::Flow;
 use crate::walks::target_of;
-
-// The most nodes of a graph.
-const MAX_NODES: usize = 65_535;
+use graph::MAX_NODES;
 
 impl<'a> Flow<'a> {
     // Adds the flow of an arc to the inflow of the node that it leads to.

@@ -6,6 +6,9 @@ ghost use Rattle.graph.specs.Graph.{leads, row};
 ghost use Rattle.graph.specs.Laws.{CompilesLayered, JoinsFix, PathsDetermined, Reduces, SpellsPatterns};
 ghost use Rattle.graph.specs.Numbering.{CompiledStepped, NumberingFixed};
 
+// The most nodes of a graph.
+pub const MAX_NODES: usize = 65_535;
+
 // One node of a graph: item i with `copies` of it taken, and the nodes to which its arcs lead.
 // The pass arc goes on to the next item, the take arc takes one copy more. The target has neither.
 #[derive(Clone, Copy, Debug, PartialEq, Eq)]

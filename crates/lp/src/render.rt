@@ -9,13 +9,10 @@ use crate::arcs::write_variables;
 use crate::constraints::{write_item_rows, write_node_rows};
 use crate::links::LinkedGraph;
 use crate::sink::{Room, Sink, Writer};
-use graph::Row;
-
-// The most nodes of a graph.
-const NODES: usize = 65_535;
+use graph::{MAX_NODES, Row};
 
 // The most arcs of a graph: two to a node.
-const ARCS: usize = 2 * NODES;
+const ARCS: usize = 2 * MAX_NODES;
 
 fn write_model<S: Sink>(sink: &mut S, graph: LinkedGraph, demands: &[u32])
     ensures { S.took sink.old (text (model graph.entry.rows.now demands.now)) sink.new }
@@ -63,7 +60,7 @@ pub fn model_text(rows: &[Row], demands: &[u32], out: &mut [u8]) -> Option<usize
     requires layered { (m : ℕ) × Layered m rows.now }
     ensures { Fills (text (model rows.now demands.now)) out.old result out.new }
 {
-    let mut first = [0; NODES];
+    let mut first = [0; MAX_NODES];
     let first = &mut first[..rows.len()];
     let mut next = [0; ARCS];
     let next = &mut next[..2 * rows.len()];

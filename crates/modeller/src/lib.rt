@@ -24,7 +24,7 @@ use texts::{Base, Instance, Limits, ReadError, read_instance};
 const NODES: usize = 512;
 
 // Two cells for each node.
-const CELLS: usize = 1_024;
+const CELLS: usize = 2 * NODES;
 
 // The bytes that are given for a model text.
 const TEXT: usize = 65_536;

@@ -26,7 +26,7 @@ use std::io::Write;
 const NODES: usize = 512;
 
 // Two cells for each node.
-const CELLS: usize = 1_024;
+const CELLS: usize = 2 * NODES;
 
 // An item of one field.
 fn make_item(name: &[u8], field: u32, demand: u32) -> Item<'_>

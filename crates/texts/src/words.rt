@@ -2,8 +2,10 @@
 ghost use Rattle.std.specs.Prelude.{◌≡◌, ◌≤◌, IfSome};
 ghost use Rattle.texts.specs.Words.{no_leading_zero, number_of, with_digit};
 
+use limits::number::LARGEST;
+
 // The largest number that a text may hold.
-pub const MAX_NUMBER: u32 = 1_000_000_000;
+pub const MAX_NUMBER: u32 = LARGEST;
 
 // Whether there is a byte, and no zero before another.
 fn starts_well(bytes: &[u8]) -> bool

@@ -7,7 +7,7 @@ ghost use Rattle.job.specs.Sound.{Sound, Loaded};
 
 use crate::state::{Core, State};
 use flow::walks::target_of;
-use graph::Row;
+use graph::{MAX_NODES, Row};
 use refusal::Refusal;
 
 impl<'a> Core<'a> {
@@ -15,7 +15,10 @@ impl<'a> Core<'a> {
     pub(crate) fn size(&self) -> usize
         ensures { result ≡ size self.now }
     {
-        self.rows.capacity().min(self.cells.len() / 2).min(65_535)
+        self.rows
+            .capacity()
+            .min(self.cells.len() / 2)
+            .min(MAX_NODES)
     }
 
     // The row of a node.

@@ -9,14 +9,16 @@ use super::{Base, Limits};
 use crate::fields::Fields;
 use crate::lines::{Line, Lines};
 use crate::words::MAX_NUMBER;
+use limits::colours::COLOURS;
+use limits::counted::MOST_ITEMS;
 use packing::MAX_ITEMS;
 use refusal::Refusal;
 
 // The most colours in a bin.
-pub const MAX_COLOURS: u32 = 64;
+pub const MAX_COLOURS: u32 = COLOURS;
 
 // The highest limit on the items in a bin.
-pub const MAX_COUNT: u32 = 100_000;
+pub const MAX_COUNT: u32 = MOST_ITEMS;
 
 // A line as one number from `low` to `high`.
 fn count_of(line: Line, low: u32, high: u32) -> Result<u32, Refusal>
