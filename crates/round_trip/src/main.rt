@@ -140,7 +140,7 @@ fn print_packing(
     };
     match left {
         Ok(value) => println!(rt; "left {value}"),
-        Err(refusal) => rt.print(refusal.line(rt.alloc())?),
+        Err(refusal) => println!(rt; "{refusal}"),
     }
 }
 
