@@ -88,7 +88,7 @@ fn peel(job: &mut Job<'_>, cells: usize) -> Result<Told, Refusal> {
     Ok(Told::Bin(times, [counts[0], counts[1]]))
 }
 
-// Makes the call.
+// Makes the call. It goes by cases, since a table holds its calls as values and their arguments differ.
 fn make(job: &mut Job<'_>, call: Call) -> Result<Told, Refusal> {
     match call {
         Call::Open => open(job).map(|nodes| Told::Number(nodes as u64)),

@@ -9,6 +9,7 @@ use graph::Row;
 use lists::list::List;
 
 // The rows and the loads of its nodes: those of node n stand at place n. The memory for loads has at most 65,535 places.
+// Its calls answer None where there is no room: an error with one reason would say no more.
 // The kind is no field but a parameter: each method would have to promise that it left the kind as it was.
 #[derive(Drop)]
 pub(crate) struct Draft<'r, 'l, L> {

@@ -1,4 +1,5 @@
-// Walks from the source to the target, arc by arc, and what they write.
+// Walks from the source to the target, arc by arc, and what they write. They share their steps and no more: a closure for what
+// one of them does at an arc would change what it captures, and a proof then knows nothing of it.
 ghost use Rattle.std.specs.Prelude.{◌≡◌, ◌+◌, ◌-◌, ◌*◌, ◌/◌, ◌<◌, ◌≤◌, false, ◌++◌, length, drop, replicate, Ok};
 ghost use Rattle.packing.specs.Problem.{entry};
 ghost use Rattle.graph.specs.Graph.{at, head, walk, spelled};

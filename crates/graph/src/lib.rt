@@ -10,7 +10,8 @@ ghost use Rattle.graph.specs.Numbering.{CompiledStepped, NumberingFixed};
 pub const MAX_NODES: usize = 65_535;
 
 // One node of a graph: item i with `copies` of it taken, and the nodes to which its arcs lead.
-// The pass arc goes on to the next item, the take arc takes one copy more. The target has neither.
+// The pass arc goes on to the next item, the take arc takes one copy more. The target has neither. An arc is the number of a row,
+// since the rows lie in lent memory and their numbers are promised.
 #[derive(Clone, Copy, Debug, PartialEq, Eq)]
 pub struct Row {
     pub item: u32,

@@ -98,7 +98,7 @@ fn write_item_row<S: Sink>(sink: &mut S, graph: LinkedGraph, item: usize, demand
     sink.put(b"\n");
 }
 
-// The items are numbered from 1.
+// The items are numbered from 1. One function for both kinds of rows would need a closure that borrows the sink.
 pub(crate) fn write_item_rows<S: Sink>(sink: &mut S, graph: LinkedGraph, demands: &[u32])
     ensures { S.took sink.old (flat_map constraint (item_rows graph.entry.rows.now 1 demands.now)) sink.new }
 {

@@ -20,7 +20,7 @@ use refusal::Refusal;
 use std::alloc::{AllocError, Global};
 use texts::{Base, Instance, Limits, ReadError, read_instance};
 
-// The most nodes of a graph.
+// The most nodes of a graph of this program: another has its own.
 const NODES: usize = 512;
 
 // Two cells for each node.
@@ -125,6 +125,7 @@ pub fn model_of(heap: Global, text: &[u8]) -> Result<Vec<u8>, AllocError>
     match read_instance(text, &mut instance) {
         Ok(()) => model_within(heap, instance.limits, &instance.items),
         Err(ReadError::Refused(refusal)) => line_of(heap, refusal),
+        // by hand, since the other error is printed
         Err(ReadError::OutOfMemory) => Err(AllocError),
     }
 }

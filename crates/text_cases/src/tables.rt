@@ -1,4 +1,5 @@
-// Damaged texts, each with the number, the layer, the line and the field of its refusal, and texts with their number of items.
+// Damaged texts, each with the number, the layer, the line and the field of its refusal as a user is told them, and texts with
+// their number of items.
 pub type Refused<'t> = (&'t [u8], [usize; 4]);
 
 // A byte outside 32 to 126.
