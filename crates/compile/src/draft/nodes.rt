@@ -61,6 +61,7 @@ impl<'r, 'l, L: Copy> Draft<'r, 'l, L> {
         ensures kept { GrewBoth self.old self.new }
         ensures reached { Reached K.amount from (K.amount load) row self.old self.new result }
     {
+        // No `or_else`: what its closure did to the draft stayed open in the proof.
         let n = match self.find(kind, from, &load) {
             Some(n) => n,
             None => self.add(row, load)?,
