@@ -1,5 +1,5 @@
 -- The ways out of accept.
-use Rattle.std.proofs.Common.{◌≡◌, ℕ, suc, ◌<◌, ◌≤◌, cond, ltb, List, [], Some, None, Option, sym, refl, ap, ◌∙◌, subst, arith}
+use Rattle.std.proofs.Common.{◌≡◌, ℕ, suc, ◌<◌, ◌≤◌, cond, ltb, List, ◌++◌, drop, [], Some, None, Option, sym, ap, ◌∙◌, subst, arith, MutBor}
 use Rattle.std.proofs.lemmas.List.{take-append-drop}
 use Rattle.std.proofs.lemmas.Bool.{cond-true, cond-false, lt-ltb, le-ltb}
 use Rattle.arrayvec.specs.ArrayVec.{ArrayVec, with_items}
@@ -11,13 +11,12 @@ use Rattle.flow.specs.Flow.{copies_of, value, carrying}
 use Rattle.flow.specs.Job.{limit, Content, View.Open, View.Accepted, Call.Accept, Reply.Worth, Answer.Done, Outcome, refuse, refuse_at, unbalanced, lacking, accept}
 use Rattle.flow.proofs.Accept.{balanced_from}
 use Rattle.job.specs.declared.state.State.TheVariants
-use Rattle.job.specs.declared.state.Core.{Core}
+use Rattle.job.specs.declared.job.Job.{Job}
 use Rattle.job.specs.View.{graph_of, flow_of, arcs_of, content, shown}
-use Rattle.job.specs.Sound.{Kept}
 use Rattle.job.specs.Contract.{Follows}
 use Rattle.job.specs.Changes.{LeftsSet}
-use Rattle.job.proofs.Facts.{open_loaded}
-use Rattle.job.proofs.Follow.{follows, holds_now}
+use Rattle.job.proofs.Facts.{loaded_open}
+use Rattle.job.proofs.Follow.{Whole, stays, follows, holds_now}
 use Rattle.job.proofs.Records.{retold}
 
 module _ (j : Content) where
@@ -47,22 +46,30 @@ module _ (j : Content) where
     accept_done e = demand None e
 
 -- what a scan of the job's graph and flow finds
-pub uneven : (b : Core) (g : List Row) (f : List ℕ) → g ≡ graph_of b → f ≡ flow_of b → unbalanced (holding g f []) ≡ unbalanced (content b)
+pub uneven : (b : Job) (g : List Row) (f : List ℕ) → g ≡ graph_of b → f ≡ flow_of b → unbalanced (holding g f []) ≡ unbalanced (content b)
 uneven b g f rows arcs = λ i. unbalanced (holding (rows i) (arcs i) [])
 
 -- the records xs of a job, as new, told of the flow f on graph g
-pub tallied : (b : Core) (g : List Row) (f : List ℕ) (xs new : List ItemRecord) → g ≡ graph_of b → f ≡ flow_of b → xs ≡ b.items.items → LeftsSet xs new (λ i. copies_of g f (suc i)) →
+pub tallied : (b : Job) (g : List Row) (f : List ℕ) (xs new : List ItemRecord) → g ≡ graph_of b → f ≡ flow_of b → xs ≡ b.items.items → LeftsSet xs new (λ i. copies_of g f (suc i)) →
     LeftsSet b.items.items (with_items b.items new).items (λ i. copies_of (graph_of b) (flow_of b) (suc i))
 tallied b g f xs new rows arcs is h =
     retold b.items (λ _ i. copies_of (graph_of b) (flow_of b) (suc i)) xs new is
     (subst (λ k. LeftsSet xs new (λ i. copies_of (graph_of b) k (suc i))) arcs (subst (λ k. LeftsSet xs new (λ i. copies_of k f (suc i))) rows h))
 
--- accept, done
-pub accepted : (b : Core) (t : ArrayVec ItemRecord) (z n : ℕ) → Kept b → b.state ≡ TheVariants.Open → LeftsSet b.items.items t.items (λ i. copies_of (graph_of b) (flow_of b) (suc i)) →
-    unbalanced (content b) ≡ None → z ≡ value (flow_of b) → z ≤ limit → lacking (content b) ≡ None → n ≡ carrying (flow_of b) →
-    Follows b (record { rows = b.rows; cells = b.cells; items = t; state = TheVariants.Accepted }) Accept (Done (Worth z n))
-accepted b t z n k opened h even is small short counts =
-    let l = k.loaded (open_loaded b.state opened) in
-    follows b b.cells t TheVariants.Accepted (flow_of b) (holds_now b l) (sym (take-append-drop (arcs_of b) b.cells.now)) Accept (Worth z n) l refl
-    (λ e. record { balanced = balanced_from (content b) even; left = λ i lt. h.told i (omega (arith, h.long)) }) h.demands
-    (ap (λ s. accept (shown s (content b))) opened ∙ accept_done (content b) even (omega arith) short ∙ (λ i. (Done (Worth (sym is i) (sym counts i)), Accepted (content b))))
+-- accept, done, with the cells r that the job had
+module _ (b : Job) (t : ArrayVec ItemRecord) (opened : b.state ≡ TheVariants.Open) (h : LeftsSet b.items.items t.items (λ i. copies_of (graph_of b) (flow_of b) (suc i))) (even : unbalanced (content b) ≡ None)
+    (r : MutBor (List ℕ)) (same : r ≡ b.cells) where
+  wrote : r.now ≡ flow_of b ++ drop (arcs_of b) b.cells.now
+  wrote = ap (λ c. c.now) same ∙ sym (take-append-drop (arcs_of b) b.cells.now)
+
+  pub accepted_stays : Whole TheVariants.Accepted (graph_of b) r.now t.items
+  accepted_stays =
+      let l = loaded_open b opened in
+      stays b (flow_of b) (holds_now b l) r.now wrote TheVariants.Accepted t.items l
+      (λ e. record { balanced = balanced_from (content b) even; left = λ i lt. h.told i (omega (arith, h.long)) }) h.demands
+
+  pub accepted : (whole : Whole TheVariants.Accepted (graph_of b) r.now t.items) (z n : ℕ) → z ≡ value (flow_of b) → z ≤ limit → lacking (content b) ≡ None → n ≡ carrying (flow_of b) →
+      Follows b (record { rows = b.rows; cells = r; items = t; state = TheVariants.Accepted; sound = whole }) Accept (Done (Worth z n))
+  accepted whole z n is small short counts =
+      follows b r t TheVariants.Accepted whole (flow_of b) (holds_now b (loaded_open b opened)) wrote Accept (Worth z n) (ap (λ c. c.ghost_name) same) h.demands
+      (ap (λ s. accept (shown s (content b))) opened ∙ accept_done (content b) even (omega arith) short ∙ (λ i. (Done (Worth (sym is i) (sym counts i)), Accepted (content b))))

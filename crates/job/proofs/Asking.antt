@@ -7,10 +7,9 @@ use Rattle.flow.specs.Job.{Content, Call.Ask, Question.CopiesLeft, Answer, Answe
 use Rattle.flow.specs.Scans.{no_item}
 use Rattle.job.specs.declared.state.State.{State}
 use Rattle.job.specs.declared.state.State.TheVariants
-use Rattle.job.specs.declared.state.Core.{Core}
+use Rattle.job.specs.declared.job.Job.{Job}
 use Rattle.job.specs.View.{graph_of, flow_of, count_of, demanded, content, size, shown, view}
-use Rattle.job.specs.Sound.{Kept}
-use Rattle.job.proofs.Facts.{demands_count}
+use Rattle.job.proofs.Facts.{kept, demands_count}
 use Rattle.job.proofs.Follow.{when_accepted}
 
 pub asked_loaded : (s : State) → (s ≡ TheVariants.Empty → ⊥) → (answer : Content → Answer) (j : Content) → unless_empty answer (shown s j) ≡ answer j
@@ -19,11 +18,11 @@ asked_loaded TheVariants.Open ne answer j = refl
 asked_loaded TheVariants.Accepted ne answer j = refl
 
 -- a question about what is loaded
-pub asks : (b : Core) (answer : Content → Answer) (r : Answer) → (b.state ≡ TheVariants.Empty → ⊥) → answer (content b) ≡ r → ◌≡◌ {A = Outcome} (unless_empty answer (view b), view b) (r, view b)
+pub asks : (b : Job) (answer : Content → Answer) (r : Answer) → (b.state ≡ TheVariants.Empty → ⊥) → answer (content b) ≡ r → ◌≡◌ {A = Outcome} (unless_empty answer (view b), view b) (r, view b)
 asks b answer r ne says = ap (λ x. (x, view b)) (asked_loaded b.state ne answer (content b) ∙ says)
 
 -- the copies left of an item that is not there, or is
-module _ (b : Core) (k : Kept b) (accepted : b.state ≡ TheVariants.Accepted) (i : ℕ) where
+module _ (b : Job) (accepted : b.state ≡ TheVariants.Accepted) (i : ℕ) where
   pub no_copies : (i ≡ 0) ⊎ (count_of b < i) → step (size b) (view b) (Ask (CopiesLeft i)) ≡ (Refused (Absent i), view b)
   no_copies h = when_accepted b (Ask (CopiesLeft i)) _ _ accepted (ap (λ x. (x, shown TheVariants.Accepted (content b))) (cond-false _ _ _ (out h)))
     where
@@ -38,4 +37,4 @@ module _ (b : Core) (k : Kept b) (accepted : b.state ≡ TheVariants.Accepted) (
       inside = and_from (ltb 0 i) _ (lt-ltb 0 i (omega arith)) (le-leb i (length (demanded b)) (omega (arith, demands_count b)))
 
       left_is : copies_of (graph_of b) (flow_of b) i ≡ (get_or b.items.items (i - 1) no_item).left
-      left_is = ap (copies_of (graph_of b) (flow_of b)) (let e : i ≡ suc (i - 1) = omega arith in e) ∙ sym ((k.settled accepted).left (i - 1) (omega arith))
+      left_is = ap (copies_of (graph_of b) (flow_of b)) (let e : i ≡ suc (i - 1) = omega arith in e) ∙ sym (((kept b).settled accepted).left (i - 1) (omega arith))

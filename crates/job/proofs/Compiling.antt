@@ -1,8 +1,9 @@
 -- A job with a compiled graph.
-use Rattle.std.proofs.Common.{◌≡◌, ℕ, ◌-◌, ◌*◌, ◌/◌, ◌<◌, ◌≤◌, min, leb, List, ◌++◌, map, length, get_or, take, drop, replicate, None, Ok, Err, sym, refl, ap, ◌∙◌, subst, ⊎_elim, arith, MutBor}
+use Rattle.std.proofs.Common.{◌≡◌, ℕ, ◌-◌, ◌*◌, ◌/◌, ◌<◌, ◌≤◌, min, leb, List, ◌++◌, map, length, get_or, take, drop, replicate, Some, None, Option, Ok, Err, sym, refl, ap, ◌∙◌, subst, ⊎_elim, arith, MutBor}
 use lib.ListN.{length-replicate}
 use Rattle.std.proofs.lemmas.List.{get_or-map, length-map, take_at, drop_at, take-append-le, drop-append-le, take-append-drop, length-append, length-drop, length-take-le}
 use Rattle.std.proofs.lemmas.Bool.{cond-true, cond-false, le-leb, lt-leb, cases_lt}
+use Rattle.arrayvec.specs.ArrayVec.{ArrayVec}
 use Rattle.limits.specs.Meaning.{Meaning}
 use Rattle.refusal.specs.declared.Refusal.TheVariants.{BadItem, TooManyNodes}
 use Rattle.lists.specs.declared.list.List.{List as Grown}
@@ -15,17 +16,17 @@ use Rattle.graph.specs.Graph.{Layered}
 use Rattle.graph.specs.Compiled.{compiled}
 use Rattle.graph.proofs.Laws.{compiles_layered}
 use Rattle.compile.specs.Growth.{capacity}
-use Rattle.compile.specs.Memory.{CompilesTo}
+use Rattle.compile.specs.Memory.{Compiles as Fills, CompilesTo}
 use Rattle.compile.proofs.Orders.{some_item, few_items}
+use Rattle.flow.specs.declared.ItemRecord.{ItemRecord}
+use Rattle.flow.specs.Scans.{demands_of}
+use Rattle.flow.proofs.Scanning.{demands_long}
 use Rattle.flow.specs.Job.{View.Open, Call.Compile, Answer.Done, Reply.Nodes, refuse_at, fresh, no_flow, opened, step}
-use Rattle.job.specs.declared.state.Core.{Core}
+use Rattle.job.specs.declared.job.Job.{Job}
 use Rattle.job.specs.declared.state.State.TheVariants
-use Rattle.job.specs.View.{graph_of, flow_of, count_of, size, view}
-use Rattle.job.specs.Sound.{Kept}
-use Rattle.job.specs.Changes.{ItemsSet}
+use Rattle.job.specs.View.{size, view}
 use Rattle.job.specs.Building.{Compiles}
-use Rattle.job.proofs.Facts.{accepted_loaded, demands_count}
-use Rattle.job.proofs.Follow.{kept_fresh, view_fresh}
+use Rattle.job.proofs.Follow.{Whole, kept_fresh, view_fresh}
 
 pub number_of_demands : (its : List Given) → length (demands (orders_of its)) ≡ length its
 number_of_demands its = length-map (orders_of its) _ ∙ length-map its order_of
@@ -43,7 +44,7 @@ front_past xs ys room m within long le same =
 
 -- Items with which nothing is wrong are compiled: xs is what the memory for the loads held before, and the first `room` places of it
 -- are given to the compilation.
-module _ {L : Type 0} (f : L → List ℕ) (k : Meaning) (its : List Given) (b : Core) (xs : List L) (sound : flaw k (orders_of its) ≡ None) where
+module _ {L : Type 0} (f : L → List ℕ) (k : Meaning) (its : List Given) (b : Job) (xs : List L) (sound : flaw k (orders_of its) ≡ None) where
   abbrev orders : List Order
   orders = orders_of its
 
@@ -53,7 +54,7 @@ module _ {L : Type 0} (f : L → List ℕ) (k : Meaning) (its : List Given) (b :
   steps_to : step (size b) (view b) (Compile k orders (length xs)) ≡ opened (min (size b) (length xs)) made (demands orders)
   steps_to = ap (λ o. refuse_at (view b) BadItem o (opened (min (size b) (length xs)) made (demands orders))) sound
 
-  module _ (s room : ℕ) (size_is : s ≡ size b) (room-is : room ≡ min s (length xs)) (was : Kept b) (rows : Grown Row) (same-room : capacity rows ≡ capacity b.rows) (same_memory : SameMemory rows b.rows) where
+  module _ (s room : ℕ) (size_is : s ≡ size b) (room-is : room ≡ min s (length xs)) (rows : Grown Row) (same-room : capacity rows ≡ capacity b.rows) (same_memory : SameMemory rows b.rows) where
     -- there is so much room for loads, rows and flow
     in_loads : room ≤ length xs
     in_loads = omega arith
@@ -71,10 +72,9 @@ module _ {L : Type 0} (f : L → List ℕ) (k : Meaning) (its : List Given) (b :
     front_long = length-take-le room xs in_loads
 
     -- the graph has more nodes than that
-    pub too_many : (ys : List L) → (length made ≤ capacity b.rows → length made ≤ length (take room xs) → ⊥)
-        → Compiles f k orders b (record { rows = rows; cells = b.cells; items = b.items; state = TheVariants.Empty }) xs ys (Err TooManyNodes)
-    too_many ys short = record {
-      sound = ∣ record { loaded = λ ne. absurd (ne refl); settled = λ e. absurd (accepted_loaded TheVariants.Empty e refl) } ∣₁;
+    pub too_many : (whole : Whole TheVariants.Empty (entries rows) b.cells.now b.items.items) (ys : List L) → (length made ≤ capacity b.rows → length made ≤ length (take room xs) → ⊥)
+        → Compiles f k orders b (record { rows = rows; cells = b.cells; items = b.items; state = TheVariants.Empty; sound = whole }) xs ys (Err TooManyNodes)
+    too_many whole ys short = record {
       step = steps_to ∙ cond-false (leb (length made) (min (size b) (length xs))) _ _ (lt-leb (length made) (min (size b) (length xs)) above);
       room = record { rows = same_memory; cells = refl; size = ap (λ n. min (min n (length b.cells.now / 2)) 65535) same-room };
       left = λ ne. absurd (ne refl);
@@ -86,12 +86,11 @@ module _ {L : Type 0} (f : L → List ℕ) (k : Meaning) (its : List Given) (b :
             (λ (le : length made ≤ min (size b) (length xs)). absurd (short (omega (arith, in_rows)) (omega (arith, front_long))))
             (cases_lt (min (size b) (length xs)) (length made))
 
-    -- The graph stands in the rows, the cells of its arcs are wiped, and the demands taken over.
-    module _ (mem : List L) (n : ℕ) (to : CompilesTo f k (items k orders) b.rows rows (take room xs) mem n) (long : length mem ≡ length (take room xs))
-        (cells : MutBor (List ℕ)) (wrote : cells.now ≡ replicate (2 * n) 0 ++ drop (2 * n) b.cells.now) (lent : cells.ghost_name ≡ b.cells.ghost_name)
-        (c : Core) (took : ItemsSet (record { rows = rows; cells = cells; items = b.items; state = b.state }) c (demands orders)) where
-      abbrev after : Core
-      after = record { rows = rows; cells = cells; items = c.items; state = TheVariants.Open }
+    -- The graph stands in the rows, and the demands are taken over.
+    module _ (mem : List L) (o : Option ℕ) (told : Fills f k (items k orders) b.rows rows (take room xs) mem o) (n : ℕ) (is : o ≡ Some n) (long : length mem ≡ length (take room xs))
+        (t : ArrayVec ItemRecord) (took : demands_of t.items ≡ demands orders) where
+      to : CompilesTo f k (items k orders) b.rows rows (take room xs) mem n
+      to = subst (λ p. Fills f k (items k orders) b.rows rows (take room xs) mem p) is told
 
       abbrev zeros : List ℕ
       zeros = replicate (2 * n) 0
@@ -108,42 +107,44 @@ module _ {L : Type 0} (f : L → List ℕ) (k : Meaning) (its : List Given) (b :
       nodes_are : length (entries rows) ≡ n
       nodes_are = ap length to.rows ∙ sym to.count
 
-      count_is : count_of c ≡ length its
-      count_is = sym (demands_count c) ∙ ap length took.demands ∙ number_of_demands its
+      count_is : length t.items ≡ length its
+      count_is = sym (demands_long t.items) ∙ ap length took ∙ number_of_demands its
 
-      cells_long : length cells.now ≡ length b.cells.now
-      cells_long = omega (arith, in_cells, few, ap length wrote, length-append zeros past, zeros_long, length-drop (2 * n) b.cells.now)
-
-      wiped : flow_of after ≡ no_flow (graph_of after)
-      wiped =
-          ap (λ m. take (2 * m) cells.now) nodes_are ∙ ap (take (2 * n)) wrote ∙ take_at zeros past (2 * n) zeros_long
-          ∙ ap (λ m. replicate (2 * m) 0) (sym nodes_are)
-
-      layers : Layered (count_of c) (graph_of after)
+      layers : Layered (length t.items) (entries rows)
       layers = subst (λ m. Layered m (entries rows)) (length-map orders (item_of k) ∙ length-map its order_of ∙ sym count_is) (subst (λ g. Layered (length (items k orders)) g) (sym to.rows) (compiles_layered k (items k orders)).0)
 
-      kept_after : Kept after
-      kept_after = kept_fresh after refl (omega (arith, count_is, some_item k its sound)) (omega (arith, count_is, few_items k its sound))
-          (omega (arith, nodes_are, few, in_limit)) (omega (arith, nodes_are, few, in_cells, cells_long)) layers wiped
+      -- the cells of the arcs wiped
+      module _ (cells : List ℕ) (wrote : cells ≡ zeros ++ past) where
+        cells_long : length cells ≡ length b.cells.now
+        cells_long = omega (arith, in_cells, few, ap length wrote, length-append zeros past, zeros_long, length-drop (2 * n) b.cells.now)
 
-      step_is : step (size b) (view b) (Compile k orders (length xs)) ≡ (Done (Nodes n), view after)
-      step_is =
-          steps_to ∙ cond-true (leb (length made) (min (size b) (length xs))) _ _ (le-leb (length made) (min (size b) (length xs)) (omega (arith, to.count, few)))
-          ∙ (λ i. (Done (Nodes (sym to.count i)), Open (fresh (sym to.rows i) (sym took.demands i))))
-          ∙ ap (λ v. (Done (Nodes n), v)) (sym (view_fresh after refl wiped))
+        wiped : take (2 * length (entries rows)) cells ≡ no_flow (entries rows)
+        wiped =
+            ap (λ m. take (2 * m) cells) nodes_are ∙ ap (take (2 * n)) wrote ∙ take_at zeros past (2 * n) zeros_long
+            ∙ ap (λ m. replicate (2 * m) 0) (sym nodes_are)
 
-      opens : Compiles f k orders b after xs (mem ++ drop room xs) (Ok n)
-      opens = record {
-        sound = ∣ kept_after ∣₁;
-        step = step_is;
-        room = record { rows = same_memory; cells = lent; size = λ i. min (min (same-room i) (cells_long i / 2)) 65535 };
-        left = record {
-          loads_are = ap (map f) (take-append-le (n - 1) mem (drop room xs) (omega (arith, few, front_long))) ∙ to.amounts;
-          loads_past = front_past xs mem room (n - 1) in_loads (long ∙ front_long) (omega (arith, few)) to.loads_past;
-          rows_past = to.rows_past;
-          cells_past = ap (drop (2 * n)) wrote ∙ drop_at zeros past (2 * n) zeros_long;
-        };
-      }
+        pub compiled_stays : Whole TheVariants.Open (entries rows) cells t.items
+        compiled_stays = kept_fresh TheVariants.Open (entries rows) cells t.items refl (omega (arith, count_is, some_item k its sound)) (omega (arith, count_is, few_items k its sound))
+            (omega (arith, nodes_are, few, in_limit)) (omega (arith, nodes_are, few, in_cells, cells_long)) layers wiped
 
-      pub compiles : Compiles f k orders b (record { rows = c.rows; cells = c.cells; items = c.items; state = TheVariants.Open }) xs (mem ++ drop room xs) (Ok n)
-      compiles = subst (λ d. Compiles f k orders b d xs (mem ++ drop room xs) (Ok n)) (sym (λ i. record { rows = took.rows i; cells = took.cells i; items = c.items; state = TheVariants.Open })) opens
+      module _ (r : MutBor (List ℕ)) (whole : Whole TheVariants.Open (entries rows) r.now t.items) (wrote : r.now ≡ zeros ++ past) (lent : r.ghost_name ≡ b.cells.ghost_name) where
+        abbrev after : Job
+        after = record { rows = rows; cells = r; items = t; state = TheVariants.Open; sound = whole }
+
+        step_is : step (size b) (view b) (Compile k orders (length xs)) ≡ (Done (Nodes n), view after)
+        step_is =
+            steps_to ∙ cond-true (leb (length made) (min (size b) (length xs))) _ _ (le-leb (length made) (min (size b) (length xs)) (omega (arith, to.count, few)))
+            ∙ (λ i. (Done (Nodes (sym to.count i)), Open (fresh (sym to.rows i) (sym took i))))
+            ∙ ap (λ v. (Done (Nodes n), v)) (sym (view_fresh after refl (wiped r.now wrote)))
+
+        pub compiles : Compiles f k orders b after xs (mem ++ drop room xs) (Ok n)
+        compiles = record {
+          step = step_is;
+          room = record { rows = same_memory; cells = lent; size = λ i. min (min (same-room i) (cells_long r.now wrote i / 2)) 65535 };
+          left = record {
+            loads_are = ap (map f) (take-append-le (n - 1) mem (drop room xs) (omega (arith, few, front_long))) ∙ to.amounts;
+            loads_past = front_past xs mem room (n - 1) in_loads (long ∙ front_long) (omega (arith, few)) to.loads_past;
+            rows_past = to.rows_past;
+            cells_past = ap (drop (2 * n)) wrote ∙ drop_at zeros past (2 * n) zeros_long;
+          };
+        }

@@ -11,9 +11,10 @@ use Rattle.flow.proofs.Shape.{Forward, forward, layered_prop, one_way}
 use Rattle.flow.proofs.Scanning.{demands_long}
 use Rattle.job.specs.declared.state.State.{State}
 use Rattle.job.specs.declared.state.State.TheVariants.{Empty, Open, Accepted}
-use Rattle.job.specs.declared.state.Core.{Core}
+use Rattle.job.specs.declared.job.Job.{Job}
 use Rattle.job.specs.View.{graph_of, arcs_of, flow_of, count_of, demanded}
-use Rattle.job.specs.Sound.{Stands, Tells, Loaded, Kept, Sound}
+use Rattle.job.specs.Standing.{Stands, Tells, Kept}
+use Rattle.job.specs.Sound.{Loaded}
 
 stands_prop : (m : ℕ) (g : List Row) (cells : List ℕ) → IsProp (Stands m g cells)
 stands_prop m g cells p q = λ i. record {
@@ -32,15 +33,15 @@ tells_prop g f items p q = λ i. record {
   left = one_way p.left q.left (hlevel props) i;
 }
 
-kept_prop : (c : Core) → IsProp (Kept c)
-kept_prop c p q = λ i. record {
+kept_prop : (s : State) (g : List Row) (cells : List ℕ) (items : List ItemRecord) → IsProp (Kept s g cells items)
+kept_prop s g cells items p q = λ i. record {
   loaded = λ h. stands_prop _ _ _ (p.loaded h) (q.loaded h) i;
   settled = λ h. tells_prop _ _ _ (p.settled h) (q.settled h) i;
 }
 
 -- the invariant, opened
-pub kept : (c : Core) → Sound c → Kept c
-kept c s = ∥∥₁_elim s (kept_prop c) (λ k. k)
+pub kept : (c : Job) → Kept c.state (graph_of c) c.cells.now c.items.items
+kept c = ∥∥₁_elim c.sound (kept_prop _ _ _ _) (λ k. k)
 
 pub open_loaded : (s : State) → s ≡ Open → s ≡ Empty → ⊥
 open_loaded s a e = let z : ◌≡◌ {A = ℕ} 0 1 = cc in omega arith
@@ -49,16 +50,16 @@ pub accepted_loaded : (s : State) → s ≡ Accepted → s ≡ Empty → ⊥
 accepted_loaded s a e = let z : ◌≡◌ {A = ℕ} 0 1 = cc in omega arith
 
 -- so its graph stands
-pub loaded_open : (c : Core) → Sound c → c.state ≡ Open → Loaded c
-loaded_open c s a = (kept c s).loaded (open_loaded c.state a)
+pub loaded_open : (c : Job) → c.state ≡ Open → Loaded c
+loaded_open c a = (kept c).loaded (open_loaded c.state a)
 
-pub loaded_accepted : (c : Core) → Sound c → c.state ≡ Accepted → Loaded c
-loaded_accepted c s a = (kept c s).loaded (accepted_loaded c.state a)
+pub loaded_accepted : (c : Job) → c.state ≡ Accepted → Loaded c
+loaded_accepted c a = (kept c).loaded (accepted_loaded c.state a)
 
 pub open_unsettled : (s : State) → s ≡ Open → s ≡ Accepted → ⊥
 open_unsettled s a e = let z : ◌≡◌ {A = ℕ} 0 1 = cc in omega arith
 
-module _ (c : Core) (l : Loaded c) where
+module _ (c : Job) (l : Loaded c) where
   pub shape : Forward (count_of c) (graph_of c)
   shape = forward l.some_item l.layers
 
@@ -74,5 +75,5 @@ module _ (c : Core) (l : Loaded c) where
   pub cell_is : (a : ℕ) → a < arcs_of c → on (flow_of c) a ≡ get_or c.cells.now a 0
   cell_is a lt = get_or-take (arcs_of c) c.cells.now a 0 lt
 
-pub demands_count : (c : Core) → length (demanded c) ≡ count_of c
+pub demands_count : (c : Job) → length (demanded c) ≡ count_of c
 demands_count c = demands_long c.items.items

@@ -14,20 +14,20 @@ use Rattle.flow.specs.Walks.{Flowing, Ready}
 use Rattle.flow.proofs.Paths.{path_long}
 use Rattle.flow.proofs.Peel.{Peeled, peeled, pull_less}
 use Rattle.job.specs.declared.state.State.TheVariants
-use Rattle.job.specs.declared.state.Core.{Core}
+use Rattle.job.specs.declared.job.Job.{Job}
 use Rattle.job.specs.View.{graph_of, flow_of, arcs_of, count_of, demanded, content, size, view}
-use Rattle.job.specs.Sound.{Loaded, Kept}
+use Rattle.job.specs.Sound.{Loaded}
 use Rattle.job.specs.Contract.{Follows}
 use Rattle.job.specs.Changes.{LeftsSet}
-use Rattle.job.proofs.Facts.{accepted_loaded, shape, on_arcs, demands_count}
-use Rattle.job.proofs.Follow.{after, follows, Holds, when_accepted}
+use Rattle.job.proofs.Facts.{kept, loaded_accepted, shape, on_arcs, demands_count}
+use Rattle.job.proofs.Follow.{Whole, stays, follows, Holds, when_accepted}
 
-module _ (b : Core) (k : Kept b) (accepted : b.state ≡ TheVariants.Accepted) (some : 0 < value (flow_of b)) where
+module _ (b : Job) (accepted : b.state ≡ TheVariants.Accepted) (some : 0 < value (flow_of b)) where
   pub loaded : Loaded b
-  loaded = k.loaded (accepted_loaded b.state accepted)
+  loaded = loaded_accepted b accepted
 
   pub flowing : Flowing (count_of b) (graph_of b) (flow_of b)
-  flowing = record { some_item = loaded.some_item; layers = loaded.layers; arcs = on_arcs b loaded; balanced = (k.settled accepted).balanced; some = some }
+  flowing = record { some_item = loaded.some_item; layers = loaded.layers; arcs = on_arcs b loaded; balanced = ((kept b).settled accepted).balanced; some = some }
 
   -- at names of the same
   pub flowing_at : (m : ℕ) (g : List Row) (f : List ℕ) → m ≡ count_of b → g ≡ graph_of b → f ≡ flow_of b → Flowing m g f
@@ -45,7 +45,7 @@ module _ (b : Core) (k : Kept b) (accepted : b.state ≡ TheVariants.Accepted) (
   arcs = next_arcs (content b)
 
   off : Peeled (graph_of b) (flow_of b) arcs ((next_bin (content b)).times)
-  off = peeled (shape b loaded) (flow_of b) (on_arcs b loaded) (k.settled accepted).balanced some
+  off = peeled (shape b loaded) (flow_of b) (on_arcs b loaded) ((kept b).settled accepted).balanced some
 
   pub spelled_long : length (spelled arcs) ≡ count_of b
   spelled_long = omega (arith, path_long (shape b loaded) off.is_path, (shape b loaded).source.0)
@@ -75,7 +75,7 @@ module _ (b : Core) (k : Kept b) (accepted : b.state ≡ TheVariants.Accepted) (
       splits i lt =
           ap (λ c. copies_of (graph_of b) left_flow (suc i) + times * c) (count_at i lt)
           ∙ gone.copies_fall (suc i) (omega arith)
-          ∙ sym ((k.settled accepted).left i lt)
+          ∙ sym (((kept b).settled accepted).left i lt)
 
       pub enough : (i : ℕ) → i < count_of b → times * get_or counts i 0 ≤ (get_or b.items.items i no_item).left
       enough i lt = omega (arith, splits i lt)
@@ -83,18 +83,20 @@ module _ (b : Core) (k : Kept b) (accepted : b.state ≡ TheVariants.Accepted) (
       pub room : count_of b ≤ length counts
       room = omega (arith, ap length given, length-append told rest, ap length counts-are, spelled_long)
 
-      module _ (r : MutBor (List ℕ)) (wrote : r.now ≡ left_flow ++ drop (arcs_of b) b.cells.now) (lent : r.ghost_name ≡ b.cells.ghost_name) (t : ArrayVec ItemRecord)
-          (booked : LeftsSet b.items.items t.items (λ i. (get_or b.items.items i no_item).left - times * get_or counts i 0)) where
-        holds : Holds b left_flow
-        holds = record { arcs = gone.keeps; limited = λ a. omega (arith, pull_less arcs (flow_of b) times a, loaded.limited a) }
+      holds : Holds b left_flow
+      holds = record { arcs = gone.keeps; limited = λ a. omega (arith, pull_less arcs (flow_of b) times a, loaded.limited a) }
 
+      module _ (t : ArrayVec ItemRecord) (booked : LeftsSet b.items.items t.items (λ i. (get_or b.items.items i no_item).left - times * get_or counts i 0)) where
         now_left : (i : ℕ) → i < length t.items → (get_or t.items i no_item).left ≡ copies_of (graph_of b) left_flow (suc i)
         now_left i lt = let l : i < count_of b = omega (arith, booked.long) in omega (arith, booked.told i l, splits i l)
 
-        pub peel_done : (cells : ℕ) → count_of b ≤ cells → Follows b (after b r t b.state) (Peel cells) (Done (Packed (record { counts = told; times = times })))
-        peel_done cells le =
-            follows b r t b.state left_flow holds wrote (Peel cells) (Packed (record { counts = told; times = times })) loaded lent
-            (λ _. record { balanced = gone.balanced; left = now_left }) booked.demands
+        pub peeled_stays : (cells : List ℕ) → cells ≡ left_flow ++ drop (arcs_of b) b.cells.now → Whole b.state (graph_of b) cells t.items
+        peeled_stays cells wrote = stays b left_flow holds cells wrote b.state t.items loaded (λ _. record { balanced = gone.balanced; left = now_left }) booked.demands
+
+        pub peel_done : (r : MutBor (List ℕ)) (whole : Whole b.state (graph_of b) r.now t.items) → r.now ≡ left_flow ++ drop (arcs_of b) b.cells.now → r.ghost_name ≡ b.cells.ghost_name → (cells : ℕ) → count_of b ≤ cells →
+            Follows b (record { rows = b.rows; cells = r; items = t; state = b.state; sound = whole }) (Peel cells) (Done (Packed (record { counts = told; times = times })))
+        peel_done r whole wrote lent cells le =
+            follows b r t b.state whole left_flow holds wrote (Peel cells) (Packed (record { counts = told; times = times })) lent booked.demands
             (when_accepted b (Peel cells) _ _ accepted
             (cond-false _ _ _ (ne_eqb (value (flow_of b)) 0 (λ e. omega (arith, some)))
             ∙ cond-false _ _ _ (le-ltb cells (length (demanded b)) (omega (arith, demands_count b)))

@@ -1,3 +1,4 @@
+pub mod Standing
 pub mod View
 pub mod Sound
 pub mod Contract

@@ -1,4 +1,4 @@
-// The calls of the core. They ask for the invariant that the shell keeps.
+// The calls of a job.
 ghost use Rattle.std.specs.Prelude.{◌≡◌, ◌*◌, ◌↔◌, length, take, IfErr, IsOk, ◌≢◌};
 ghost use Rattle.lists.specs.Entries.{entries};
 ghost use Rattle.flow.specs.Scans.{Fits};
@@ -14,7 +14,8 @@ mod questions;
 mod reducing;
 mod writing;
 
-use crate::state::{Core, State};
+use crate::job::Job;
+use crate::state::State;
 use flow::flows::Flow;
 use graph::Row;
 use lists::list::List;
@@ -32,7 +33,7 @@ fn flow_in<'f>(rows: &'f List<'_, Row>, cells: &'f [u32]) -> Flow<'f>
     }
 }
 
-impl<'a> Core<'a> {
+impl<'a> Job<'a> {
     // The graph with its flow.
     fn flow(&self) -> Flow<'_>
         requires { Loaded self.now }

@@ -1,9 +1,4 @@
-// What a job holds.
-use arrayvec::ArrayVec;
-use flow::ItemRecord;
-use graph::Row;
-use lists::list::List;
-use packing::MAX_ITEMS;
+// The states of a job, and what it answers on accepting a flow.
 
 #[derive(Clone, Copy, Debug, PartialEq, Eq)]
 pub enum State {
@@ -17,13 +12,4 @@ pub enum State {
 pub struct Acceptance {
     pub value: u32,
     pub arcs: u32,
-}
-
-// The nodes are the entries of `rows`. Cell k holds the flow of arc k: 2n is the pass arc of node n, and 2n + 1 its take arc.
-#[derive(Drop)]
-pub struct Core<'a> {
-    pub(crate) rows: List<'a, Row>,
-    pub(crate) cells: &'a mut [u32],
-    pub(crate) items: ArrayVec<ItemRecord, MAX_ITEMS>,
-    pub(crate) state: State,
 }

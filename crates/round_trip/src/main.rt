@@ -48,7 +48,7 @@ fn pack_boards(
     items: &[Item<'_>],
     loads: &mut [u32],
 ) -> Result<Acceptance, Refusal>
-    ensures { outcome (answers (size job.old.core) (view job.old.core) (placing (length_meaning kind.now.limit.value) (orders_of items.now) (length loads.old))) ≡ answered worth result }
+    ensures { outcome (answers (size job.old) (view job.old) (placing (length_meaning kind.now.limit.value) (orders_of items.now) (length loads.old))) ≡ answered worth result }
 {
     job.compile(kind, items, loads)?;
     job.reduce()?;
@@ -65,7 +65,7 @@ fn pack_inks(
     items: &[Item<'_>],
     loads: &mut [ColourSet],
 ) -> Result<Acceptance, Refusal>
-    ensures { outcome (answers (size job.old.core) (view job.old.core) (carrying (colours_meaning kind.now.limit.value) (orders_of items.now) (length loads.old))) ≡ answered worth result }
+    ensures { outcome (answers (size job.old) (view job.old) (carrying (colours_meaning kind.now.limit.value) (orders_of items.now) (length loads.old))) ≡ answered worth result }
 {
     job.compile(kind, items, loads)?;
     job.reduce()?;

@@ -3,12 +3,13 @@ ghost use Rattle.std.specs.Prelude.{◌≡◌, suc, ◌≤◌, length};
 ghost use Rattle.flow.specs.Flow.{copies_of};
 ghost use Rattle.flow.specs.Job.{Call, lacking};
 ghost use Rattle.job.specs.View.{answered, content, worth};
-ghost use Rattle.job.specs.Sound.{Loaded, Sound};
+ghost use Rattle.job.specs.Sound.{Loaded};
 ghost use Rattle.job.specs.Contract.{Follows};
 ghost use Rattle.job.specs.Changes.{LeftsSet};
 
 use super::flow_in;
-use crate::state::{Acceptance, Core, State};
+use crate::job::Job;
+use crate::state::{Acceptance, State};
 use flow::flows::Flow;
 use flow::scans::count_carrying;
 use flow::{ItemRecord, LIMIT};
@@ -24,7 +25,7 @@ fn tally(flow: &Flow<'_>, items: &mut [ItemRecord])
     }
 }
 
-impl<'a> Core<'a> {
+impl<'a> Job<'a> {
     // The lowest item with fewer copies than its demand.
     fn first_short(&self) -> Option<u32>
         requires { Loaded self.now }
@@ -34,8 +35,7 @@ impl<'a> Core<'a> {
     }
 
     // Accepts the flow, and answers its value and the number of arcs that carry flow.
-    pub(crate) fn accept(&mut self) -> Result<Acceptance, Refusal>
-        requires { Sound self.old }
+    pub fn accept(&mut self) -> Result<Acceptance, Refusal>
         ensures { Follows self.old self.new Call.Accept (answered worth result) }
     {
         self.expect(State::Open)?;

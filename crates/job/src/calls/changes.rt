@@ -2,11 +2,12 @@
 ghost use Rattle.std.specs.Prelude.{◌≡◌, ◌/◌, min, length};
 ghost use Rattle.lists.specs.Entries.{spare};
 ghost use Rattle.flow.specs.Job.{Call, View};
+ghost use Rattle.flow.specs.Law.{PacksSoundly};
 ghost use Rattle.job.specs.View.{size, view, answered, plain};
-ghost use Rattle.job.specs.Sound.{Sound};
 ghost use Rattle.job.specs.Contract.{Follows};
 
-use crate::state::{Core, State};
+use crate::job::Job;
+use crate::state::State;
 use arrayvec::ArrayVec;
 use flow::LIMIT;
 use flow::walks::{target_of, wipe};
@@ -14,18 +15,18 @@ use graph::Row;
 use lists::list::List;
 use refusal::Refusal;
 
-impl<'a> Core<'a> {
-    // An empty job over the memory.
-    pub(crate) fn new(rows: &'a mut [Row], cells: &'a mut [u32]) -> Core<'a>
-        ensures sound { Sound result }
+impl<'a> Job<'a> {
+    // An empty job over the memory. Whatever calls then follow one another on it, the law holds after each.
+    pub fn new(rows: &'a mut [Row], cells: &'a mut [u32]) -> Job<'a>
         ensures empty { view result ≡ View.Empty }
         ensures size { size result ≡ min (min (length rows.old) (length cells.old / 2)) 65535 }
         ensures rows { spare result.rows ≡ rows.old }
         ensures cells { result.cells.now ≡ cells.old }
         ensures lent_rows { result.rows.cells.ghost_name ≡ rows.entry.ghost_name }
         ensures lent_cells { result.cells.ghost_name ≡ cells.entry.ghost_name }
+        ensures law { PacksSoundly }
     {
-        Core {
+        Job {
             rows: List::over(rows),
             cells,
             items: ArrayVec::new(),
@@ -34,8 +35,7 @@ impl<'a> Core<'a> {
     }
 
     // Sets all flow to 0.
-    pub(crate) fn clear(&mut self) -> Result<(), Refusal>
-        requires { Sound self.old }
+    pub fn clear(&mut self) -> Result<(), Refusal>
         ensures { Follows self.old self.new Call.Clear (answered plain result) }
     {
         self.expect_loaded()?;
@@ -45,8 +45,7 @@ impl<'a> Core<'a> {
     }
 
     // Sets the flow of one arc.
-    pub(crate) fn carry(&mut self, arc: u32, flow: u32) -> Result<(), Refusal>
-        requires { Sound self.old }
+    pub fn carry(&mut self, arc: u32, flow: u32) -> Result<(), Refusal>
         ensures { Follows self.old self.new (Call.Carry arc flow) (answered plain result) }
     {
         self.expect(State::Open)?;

@@ -1,54 +1,59 @@
 // Compile: the graph of the items in place of the job's.
-ghost use Rattle.std.specs.Prelude.{◌≤◌, length};
+ghost use Rattle.std.specs.Prelude.{◌≡◌, ◌≤◌, length};
 ghost use Rattle.packing.specs.Given.{orders_of};
 ghost use Rattle.packing.specs.Problem.{demands};
-ghost use Rattle.job.specs.Sound.{Sound};
-ghost use Rattle.job.specs.Changes.{ItemsSet};
+ghost use Rattle.flow.specs.Scans.{demands_of};
+ghost use Rattle.graph.specs.Laws.{SpellsPatterns};
+ghost use Rattle.graph.specs.Numbering.{CompiledStepped, NumberingFixed};
 ghost use Rattle.job.specs.Building.{Compiles};
 
-use crate::state::{Core, State};
+use crate::job::Job;
+use crate::state::State;
+use arrayvec::ArrayVec;
 use compile::check_items;
 use flow::ItemRecord;
 use flow::walks::wipe;
 use limits::kind::Kind;
-use packing::Item;
+use packing::{Item, MAX_ITEMS};
 use refusal::Refusal;
 
-impl<'a> Core<'a> {
-    // Takes over the demands of the items, with no copies left.
-    fn set_items(&mut self, items: &[Item<'_>])
-        requires { length items.now ≤ 64 }
-        ensures { ItemsSet self.old self.new (demands (orders_of items.now)) }
-    {
-        self.items.clear();
-        for item in items {
-            self.items.push(ItemRecord {
-                demand: item.demand,
-                left: 0,
-            });
-        }
+// Takes over the demands of the items, with no copies left.
+fn set_items(records: &mut ArrayVec<ItemRecord, MAX_ITEMS>, items: &[Item<'_>])
+    requires { length items.now ≤ 64 }
+    ensures { demands_of records.new.items ≡ demands (orders_of items.now) }
+{
+    records.clear();
+    for item in items {
+        records.push(ItemRecord {
+            demand: item.demand,
+            left: 0,
+        });
     }
+}
 
+impl<'a> Job<'a> {
     // Opens the job with the graph of the items and no flow, and answers the number of nodes. The load of node n then lies at
-    // place n of `loads`.
-    pub(crate) fn compile<K: Kind>(
+    // place n of `loads`. The paths of the graph are the patterns of the items, and its plain rule leaves no other graph.
+    pub fn compile<K: Kind>(
         &mut self,
         kind: &K,
         items: &[Item<'_>],
         loads: &mut [K::Load],
     ) -> Result<usize, Refusal>
-        requires { Sound self.old }
-        ensures { Compiles K.amount (K.meaning kind.now) (orders_of items.now) self.old self.new loads.old loads.new result }
+        ensures compiled { Compiles K.amount (K.meaning kind.now) (orders_of items.now) self.old self.new loads.old loads.new result }
+        ensures spells { SpellsPatterns }
+        ensures numbered { CompiledStepped }
+        ensures fixed { NumberingFixed }
     {
         check_items(kind, items)?;
         let room = self.size().min(loads.len());
-        // no `?` here: this refusal leaves the job empty
-        let Some(nodes) = compile::compile(kind, items, &mut self.rows, &mut loads[..room]) else {
-            self.state = State::Empty;
-            return Err(Refusal::TooManyNodes);
-        };
+        // empty while rows and cells do not fit each other, and so where there are too many nodes
+        self.state = State::Empty;
+        let nodes = compile::compile(kind, items, &mut self.rows, &mut loads[..room]).ok_or(
+            Refusal::TooManyNodes,
+        )?;
         wipe(&mut *self.cells, 2 * nodes);
-        self.set_items(items);
+        set_items(&mut self.items, items);
         self.state = State::Open;
         Ok(nodes)
     }

@@ -3,11 +3,11 @@ ghost use Rattle.std.specs.Prelude.{◌≡◌, ℕ, ◌-◌, ◌*◌, ◌<◌, �
 ghost use Rattle.flow.specs.Job.{Call};
 ghost use Rattle.flow.specs.Scans.{no_item};
 ghost use Rattle.job.specs.View.{count_of, answered, packed};
-ghost use Rattle.job.specs.Sound.{Sound};
 ghost use Rattle.job.specs.Contract.{Follows};
 ghost use Rattle.job.specs.Changes.{LeftsSet};
 
-use crate::state::{Core, State};
+use crate::job::Job;
+use crate::state::State;
 use flow::ItemRecord;
 use flow::walks::take_off;
 use refusal::Refusal;
@@ -24,10 +24,9 @@ fn book(items: &mut [ItemRecord], counts: &[u32], times: u32)
     }
 }
 
-impl<'a> Core<'a> {
-    // Takes the next bin off the flow: its times, with its counts in the first cells given.
-    pub(crate) fn peel(&mut self, counts: &mut [u32]) -> Result<u32, Refusal>
-        requires { Sound self.old }
+impl<'a> Job<'a> {
+    // Takes the next bin off the flow: its times, with its counts in the first cells given, one for each item.
+    pub fn peel(&mut self, counts: &mut [u32]) -> Result<u32, Refusal>
         ensures step { Follows self.old self.new (Call.Peel (length counts.old)) (answered (packed (take (count_of self.old) counts.new)) result) }
         ensures rest { drop (count_of self.old) counts.new ≡ drop (count_of self.old) counts.old }
         ensures refused { is_ok result ≡ false → counts.new ≡ counts.old }

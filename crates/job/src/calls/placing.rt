@@ -1,18 +1,17 @@
 // Placing a pattern.
 ghost use Rattle.flow.specs.Job.{Call};
 ghost use Rattle.job.specs.View.{answered, plain};
-ghost use Rattle.job.specs.Sound.{Sound};
 ghost use Rattle.job.specs.Contract.{Follows};
 
-use crate::state::{Core, State};
+use crate::job::Job;
+use crate::state::State;
 use flow::LIMIT;
 use flow::walks::add_route;
 use refusal::Refusal;
 
-impl<'a> Core<'a> {
-    // Adds `times` to each arc of the path that spells the counts, or refuses.
-    pub(crate) fn place(&mut self, counts: &[u32], times: u32) -> Result<(), Refusal>
-        requires { Sound self.old }
+impl<'a> Job<'a> {
+    // Adds `times` to each arc of the path that spells the counts.
+    pub fn place(&mut self, counts: &[u32], times: u32) -> Result<(), Refusal>
         ensures { Follows self.old self.new (Call.Place counts.now times) (answered plain result) }
     {
         self.expect(State::Open)?;

@@ -1,18 +1,19 @@
 // The questions.
 ghost use Rattle.std.specs.Prelude.{◌≡◌};
 ghost use Rattle.flow.specs.Flow.{value};
-ghost use Rattle.flow.specs.Job.{Question};
-ghost use Rattle.job.specs.View.{size, flow_of, answered, node, quantity, Asked};
-ghost use Rattle.job.specs.Sound.{Sound, Loaded};
+ghost use Rattle.flow.specs.Job.{Answer, Fact, Question, Reply};
+ghost use Rattle.job.specs.View.{size, flow_of, answered, node, quantity, phase_of, Asked};
+ghost use Rattle.job.specs.Sound.{Loaded};
 
-use crate::state::{Core, State};
+use crate::job::Job;
+use crate::state::State;
 use flow::walks::target_of;
 use graph::{MAX_NODES, Row};
 use refusal::Refusal;
 
-impl<'a> Core<'a> {
+impl<'a> Job<'a> {
     // The most nodes that the job can have.
-    pub(crate) fn size(&self) -> usize
+    pub fn size(&self) -> usize
         ensures { result ≡ size self.now }
     {
         self.rows
@@ -21,9 +22,14 @@ impl<'a> Core<'a> {
             .min(MAX_NODES)
     }
 
+    pub fn state(&self) -> State
+        ensures { Asked self.now Question.State (Answer.Done (Reply.Told (Fact.Is (phase_of result)))) }
+    {
+        self.state
+    }
+
     // The row of a node.
-    pub(crate) fn node_row(&self, number: u32) -> Result<Row, Refusal>
-        requires { Sound self.now }
+    pub fn node_row(&self, number: u32) -> Result<Row, Refusal>
         ensures { Asked self.now (Question.RowOf number) (answered node result) }
     {
         self.expect_loaded()?;
@@ -33,8 +39,7 @@ impl<'a> Core<'a> {
     }
 
     // The flow of an arc.
-    pub(crate) fn arc_flow(&self, arc: u32) -> Result<u32, Refusal>
-        requires { Sound self.now }
+    pub fn arc_flow(&self, arc: u32) -> Result<u32, Refusal>
         ensures { Asked self.now (Question.FlowOf arc) (answered quantity result) }
     {
         self.expect_loaded()?;
@@ -50,9 +55,8 @@ impl<'a> Core<'a> {
         self.cells[0] + self.cells[1]
     }
 
-    // The value left.
-    pub(crate) fn value_left(&self) -> Result<u32, Refusal>
-        requires { Sound self.now }
+    // The flow left out of the source.
+    pub fn value_left(&self) -> Result<u32, Refusal>
         ensures { Asked self.now Question.ValueLeft (answered quantity result) }
     {
         self.expect(State::Accepted)?;
@@ -60,8 +64,7 @@ impl<'a> Core<'a> {
     }
 
     // The copies of an item, from 1, that are left on its take arcs.
-    pub(crate) fn copies_left(&self, item: u32) -> Result<u64, Refusal>
-        requires { Sound self.now }
+    pub fn copies_left(&self, item: u32) -> Result<u64, Refusal>
         ensures { Asked self.now (Question.CopiesLeft item) (answered quantity result) }
     {
         self.expect(State::Accepted)?;

@@ -1,12 +1,13 @@
 // The model text of the job's graph and demands.
 ghost use Rattle.std.specs.Prelude.{◌≡◌, ◌≤◌, length, take, drop, MatchResult};
+ghost use Rattle.flow.specs.Exact.{ModelsExactly};
 ghost use Rattle.flow.specs.Job.{Question};
 ghost use Rattle.flow.specs.Scans.{demands_of};
+ghost use Rattle.lp.specs.Reading.{GraphsReadBack};
 ghost use Rattle.job.specs.View.{answered, Asked};
-ghost use Rattle.job.specs.Sound.{Sound};
 ghost use Rattle.job.specs.Building.{text_in};
 
-use crate::state::Core;
+use crate::job::Job;
 use flow::ItemRecord;
 use lp::render;
 use packing::MAX_ITEMS;
@@ -25,12 +26,14 @@ fn demands_in(items: &[ItemRecord]) -> [u32; MAX_ITEMS]
     demands
 }
 
-impl<'a> Core<'a> {
-    // Writes the model text at the start of the memory, and answers its length.
-    pub(crate) fn model_text(&self, out: &mut [u8]) -> Result<usize, Refusal>
-        requires { Sound self.now }
+impl<'a> Job<'a> {
+    // Writes the model text at the start of the memory, and answers its length. The model has a solution of value z if and only if
+    // there is a packing in z bins, and the text tells the whole model.
+    pub fn model_text(&self, out: &mut [u8]) -> Result<usize, Refusal>
         ensures step { Asked self.now (Question.ModelText (length out.old)) (answered (text_in out.new) result) }
         ensures past { MatchResult result (λ n. drop n out.new ≡ drop n out.old) (λ _. out.new ≡ out.old) }
+        ensures exact { ModelsExactly }
+        ensures legible { GraphsReadBack }
     {
         self.expect_loaded()?;
         let memory = demands_in(self.items.as_slice());

@@ -1,0 +1,16 @@
+use Rattle.std.proofs.Common.{[], ◌∷◌, ◌++◌, sym, ap, ◌∙◌, ap₂, arith}
+use Rattle.std.proofs.lemmas.List.{take_more, map_push}
+use Rattle.packing.specs.Given.{orders_of}
+use Rattle.packing.specs.Problem.{demands}
+use Rattle.flow.specs.declared.ItemRecord.{ItemRecord}
+use Rattle.flow.specs.Scans.{demands_of}
+use Rattle.job.proofs.Compiling.{demand_at, number_of_demands}
+use Rattle.job.proofs.calls.compiling.set_items.Goals as goal
+
+pub loop-item-preserved : goal.loop-item-preserved
+loop-item-preserved c =
+    let its = c.args.items.now in
+    let n = c.loop-item.item-index in
+    ap demands_of c.push.ensures.items ∙ map_push (λ (i : ItemRecord). i.demand) c.loop-item.records.items _
+    ∙ ap₂ (λ xs x. xs ++ x ∷ []) c.loop-item.invariant (demand_at its n _ (omega arith))
+    ∙ sym (take_more (demands (orders_of its)) n 0 (omega (arith, number_of_demands its)))

@@ -1,0 +1,8 @@
+use Rattle.std.proofs.Common.{◌≡◌, take}
+use Rattle.packing.specs.Given.{orders_of}
+use Rattle.packing.specs.Problem.{demands}
+use Rattle.flow.specs.Scans.{demands_of}
+use Rattle.job.proofs.calls.compiling.set_items.Given as goal
+
+abbrev pub invariant-loop-item : goal.invariant-loop-item
+invariant-loop-item l = demands_of l.records.items ≡ take l.item-index (demands (orders_of l.items))
