@@ -18,7 +18,7 @@ use packing::Item;
 use std::mem;
 
 impl<'r, 'l, L: Copy> Draft<'r, 'l, L> {
-    // The graph of the items but for the target, in place of no node. None if there is no room for the whole graph.
+    // The graph of the items but for the target, in a draft without nodes. None if there is no room for the whole graph.
     fn fill<K: Kind<Load = L>>(&mut self, kind: &K, items: &[Item<'_>]) -> Option<()>
         requires sound { flaw (K.meaning kind.now) (orders_of items.now) ≡ None }
         requires empty { entries self.old.rows ≡ [] }

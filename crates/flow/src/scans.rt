@@ -67,6 +67,7 @@ impl<'a> Flow<'a> {
         ensures { result ≡ copies_of self.now.rows.now self.now.arcs.now item }
     {
         let mut sum = 0;
+        // numbered: a node is a row and two cells
         for (node, row) in self.rows.iter().enumerate() {
             if row.item == item && row.take.is_some() {
                 sum += u64::from(self.arcs[2 * node + 1]);

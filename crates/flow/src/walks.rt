@@ -9,7 +9,7 @@ ghost use Rattle.flow.specs.Walks.{Flowing, Placeable, Ready, arcs_along, carrie
 
 use crate::LIMIT;
 use crate::flows::Flow;
-use graph::Row;
+use graph::{Row, head_of};
 use refusal::Refusal;
 
 // Sets the first cells to 0. Its clause tells the whole memory, which `fill` on a part of it does not.
@@ -25,7 +25,7 @@ pub fn wipe(cells: &mut [u32], arcs: usize)
 pub fn target_of(rows: &[Row], arc: u32) -> Option<u32>
     ensures { result ≡ head rows.now arc }
 {
-    rows.get((arc / 2) as usize)?.head(arc as usize)
+    head_of(rows, arc as usize)
 }
 
 // The arc by which the next bin leaves a node: the take arc where it carries flow, else the pass arc.

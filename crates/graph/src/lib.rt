@@ -2,7 +2,7 @@
 #![tactic(auto)]
 
 ghost use Rattle.std.specs.Prelude.{◌≡◌, None};
-ghost use Rattle.graph.specs.Graph.{leads, row};
+ghost use Rattle.graph.specs.Graph.{head, leads, row};
 ghost use Rattle.graph.specs.Laws.{CompilesLayered, JoinsFix, PathsDetermined, Reduces, SpellsPatterns};
 ghost use Rattle.graph.specs.Numbering.{CompiledStepped, NumberingFixed};
 
@@ -10,8 +10,8 @@ ghost use Rattle.graph.specs.Numbering.{CompiledStepped, NumberingFixed};
 pub const MAX_NODES: usize = 65_535;
 
 // One node of a graph: item i with `copies` of it taken, and the nodes to which its arcs lead.
-// The pass arc goes on to the next item, the take arc takes one copy more. The target has neither. An arc is the number of a row,
-// since the rows lie in lent memory and their numbers are promised.
+// The pass arc goes on to the next item, the take arc takes one copy more. The target has neither. An arc is held as the
+// number of the row to which it leads, since rows lie in lent memory and their numbers are promised.
 #[derive(Clone, Copy, Debug, PartialEq, Eq)]
 pub struct Row {
     pub item: u32,
@@ -39,6 +39,13 @@ impl Row {
     {
         if arc % 2 == 1 { self.take } else { self.pass }
     }
+}
+
+// Where an arc of a graph leads, if it is there. Its number tells the node from which it comes, and which arc of that node it is.
+pub fn head_of(rows: &[Row], arc: usize) -> Option<u32>
+    ensures { result ≡ head rows.now arc }
+{
+    rows.get(arc / 2)?.head(arc)
 }
 
 // A path is fixed by its counts, by which it can be found, and its counts by its arcs.

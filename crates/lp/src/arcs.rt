@@ -1,7 +1,6 @@
 // Arcs as entries of the text, one after another.
 ghost use Rattle.std.specs.Prelude.{◌≡◌, ℕ, ◌+◌, ◌*◌, ◌≤◌, List, ◌++◌, map, length};
 ghost use Rattle.std.specs.Iterator.{Drains, UpTo};
-ghost use Rattle.graph.specs.Graph.{head};
 ghost use Rattle.flow.specs.Arcs.{all_arcs};
 ghost use Rattle.flow.specs.Model.{Variable.X};
 ghost use Rattle.flow.specs.Text.{break, entries, full, listed};
@@ -9,7 +8,7 @@ ghost use Rattle.lp.specs.Writing.{arc_entry, lead as leading};
 
 use crate::links::LinkedGraph;
 use crate::sink::Sink;
-use graph::Row;
+use graph::head_of;
 
 // Entries to a line of the text.
 const PER_LINE: usize = 8;
@@ -34,13 +33,6 @@ impl Lead {
             Lead::TakenOff => b" - ",
         }
     }
-}
-
-// Where an arc of a graph leads, if it is there.
-pub(crate) fn head_of(rows: &[Row], arc: usize) -> Option<u32>
-    ensures { result ≡ head rows.now arc }
-{
-    rows.get(arc / 2)?.head(arc)
 }
 
 // Whether the line breaks before an entry that follows k others.

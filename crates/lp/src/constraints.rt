@@ -7,10 +7,10 @@ ghost use Rattle.flow.specs.Model.{item_row, item_rows, node_row, node_rows, plu
 ghost use Rattle.flow.specs.Text.{constraint, entries, term};
 ghost use Rattle.lp.specs.Writing.{InOrder, NodesOf};
 
-use crate::arcs::{Lead, head_of, line_break, write_arcs};
+use crate::arcs::{Lead, line_break, write_arcs};
 use crate::links::LinkedGraph;
 use crate::sink::Sink;
-use graph::Row;
+use graph::{Row, head_of};
 use std::ops::Range;
 
 // What a row is about: its kind and its number.

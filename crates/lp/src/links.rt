@@ -6,8 +6,7 @@ ghost use Rattle.flow.specs.Arcs.{arcs_into};
 ghost use Rattle.lp.specs.Links.{Linked};
 ghost use Rattle.lp.specs.Writing.{InOrder};
 
-use crate::arcs::head_of;
-use graph::Row;
+use graph::{Row, head_of};
 use std::mem;
 
 // A graph with the arcs into each node linked: the first arc into a node, and the next after an arc into the same node.

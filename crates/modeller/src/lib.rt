@@ -106,6 +106,7 @@ fn model_within(heap: Global, limits: Limits, items: &[Item<'_>]) -> Result<Vec<
     ensures { IfOk result (λ v. v.items ≡ modelled (limits_meaning limits) (orders_of items.now)) }
 {
     let count = limits.count;
+    // by cases: each kind is a type of its own
     match limits.base {
         Base::Length(limit) => model_under(heap, Length::new(limit).unwrap(), count, items),
         Base::Vector(four) => {

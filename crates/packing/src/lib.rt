@@ -15,8 +15,7 @@ pub const MAX_DEMAND: u32 = 4_095;
 pub const MAX_FIELDS: usize = 4;
 
 // An item: its name, which is a part of the text that it was read from, with the line of that text; its fields, which are
-// the first `field_count` of the values, for there is no heap and the kind is known only as the program runs; and how many of
-// it are to be packed.
+// the first `field_count` of the values, since a vector can't be copied as an item is; and how many of it are to be packed.
 #[derive(Clone, Copy)]
 pub struct Item<'t> {
     pub name: &'t [u8],

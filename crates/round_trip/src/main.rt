@@ -150,7 +150,7 @@ fn main(rt: HostRuntime) -> io::Result<()> {
     let mut cells = vec![in heap; 0; CELLS]?;
     let mut job = Job::new(&mut rows, &mut cells);
 
-    // not `unwrap`, of which the check does not find alone that the kind is there
+    // tried with `unwrap`: that the kind is there is not proved then
     let Some(length) = Length::new(5) else {
         unreachable()
     };

@@ -39,6 +39,7 @@ pub(crate) fn parse_decimal(bytes: &[u8]) -> Option<u32>
         return None;
     }
     let mut n = 0;
+    // tried with `try_fold`: the number that it answers is not proved
     for b in bytes {
         n = with_digit(n, *b)?;
     }

@@ -8,20 +8,20 @@ ghost use Rattle.job.specs.View.{answered, Asked};
 ghost use Rattle.job.specs.Building.{text_in};
 
 use crate::job::Job;
+use arrayvec::ArrayVec;
 use flow::ItemRecord;
 use lp::render;
 use packing::MAX_ITEMS;
 use refusal::Refusal;
 
-// The demands of the items, before zeros.
-fn demands_in(items: &[ItemRecord]) -> [u32; MAX_ITEMS]
+// The demands of the items.
+fn demands_in(items: &[ItemRecord]) -> ArrayVec<u32, MAX_ITEMS>
     requires { length items.now ≤ 64 }
-    ensures { take (length items.now) result ≡ demands_of items.now }
+    ensures { result.items ≡ demands_of items.now }
 {
-    let mut demands = [0; MAX_ITEMS];
-    // numbered by place: with `zip` the proof lacks which cell an item of the loop is
-    for (place, item) in items.iter().enumerate() {
-        demands[place] = item.demand;
+    let mut demands = ArrayVec::new();
+    for item in items {
+        demands.push(item.demand);
     }
     demands
 }
@@ -36,8 +36,9 @@ impl<'a> Job<'a> {
         ensures legible { GraphsReadBack }
     {
         self.expect_loaded()?;
-        let memory = demands_in(self.items.as_slice());
-        let demands = &memory[..self.items.len()];
-        render::model_text(self.rows.as_slice(), demands, out).ok_or(Refusal::TooLittleMemory)
+        let demands = demands_in(self.items.as_slice());
+        render::model_text(self.rows.as_slice(), demands.as_slice(), out).ok_or(
+            Refusal::TooLittleMemory,
+        )
     }
 }

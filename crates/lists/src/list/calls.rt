@@ -43,8 +43,8 @@ impl<'a, T: Copy> List<'a, T> {
         self.as_slice().get(i).copied()
     }
 
-    // Puts `x` in place of the entry at `i` and answers true; false if there is no such entry. It is no `get_mut`: a `&mut` that
-    // is handed out of a list gets no proof.
+    // Puts `x` in place of the entry at `i` and answers true; false if there is no such entry. It is no `get_mut`: a
+    // `&mut` that is handed out of a list gets no generated proof.
     pub fn set(&mut self, i: usize, x: T) -> bool
         ensures tells { Decides result (i < length (entries self.old)) }
         ensures entries { entries self.new ≡ slice_set (entries self.old) i x }
