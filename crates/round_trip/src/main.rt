@@ -130,15 +130,13 @@ fn print_packing(
     items: &[Item<'_>],
     accepted: Result<Acceptance, Refusal>,
 ) -> io::Result<()> {
-    let left = match accepted {
-        Ok(Acceptance { value, arcs }) => {
-            println!(rt; "z {value} arcs {arcs}")?;
-            print_bins(rt, job, items, value)?;
-            job.value_left()
-        }
-        Err(refusal) => Err(refusal),
+    let Acceptance { value, arcs } = match accepted {
+        Ok(acceptance) => acceptance,
+        Err(refusal) => return println!(rt; "{refusal}"),
     };
-    match left {
+    println!(rt; "z {value} arcs {arcs}")?;
+    print_bins(rt, job, items, value)?;
+    match job.value_left() {
         Ok(value) => println!(rt; "left {value}"),
         Err(refusal) => println!(rt; "{refusal}"),
     }
