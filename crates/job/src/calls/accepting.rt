@@ -50,7 +50,7 @@ impl<'a> Job<'a> {
             return Err(Refusal::BelowDemand { item });
         }
         let arcs = count_carrying(self.flow().arcs);
-        // the cells are taken out meanwhile: a job that lends its flow cannot lend its records for writing
+        // the cells are taken out meanwhile: lent beside the records, the proof lacks that they stay as they are
         let cells = std::mem::take(&mut self.cells);
         tally(&flow_in(&self.rows, &*cells), self.items.as_mut_slice());
         self.cells = cells;
