@@ -1,14 +1,14 @@
 -- The nodes of an item stand together.
-use Rattle.std.proofs.Common.{ap₂, ◌≡◌, ℕ, zero, suc, cond, ◌∷◌, map, ◌+◌, ◌-◌, ◌*◌, ◌<◌, ◌≤◌, Bool, true, false, ◌&&◌, eqb, ltb, leb, ◌⊎◌, List, [], ◌++◌, length, is_some, sym, refl, ap, ◌∙◌, inl, inr, arith}
-use Rattle.std.specs.List.{filter, range_with_len}
-use Rattle.std.specs.List.Sorted.{IsPartitionPoint}
-use Rattle.std.proofs.lemmas.Bool.{cases_lt, eq-eqb, ne_eqb}
-use borrow.Author.Tests.{ltb-true, ltb-false, leb-true, leb-false}
+use Rattle.std.proofs.Common.{ap₂, ◌≡◌, ℕ, zero, suc, cond, ◌∷◌, map, ◌+◌, ◌-◌, ◌*◌, ◌<◌, ◌≤◌, Bool, true, false, ◌&&◌, eqb, ◌⊎◌, List, [], ◌++◌, length, drop, get_or, length-drop, is_some, sym, refl, ap, ◌∙◌, inl, inr, arith}
+use Rattle.std.specs.List.{filter, prefix_len, range_with_len}
+use Rattle.std.proofs.lemmas.Bool.{cases_lt, eq-eqb, eqb-true, eqb-false, ne_eqb}
+use Rattle.std.proofs.lemmas.List.{get_or-drop}
+use Rattle.std.proofs.lemmas.List.Sums.{prefix_len-le-length, prefix_len_passes, prefix_len_stops}
 use Rattle.graph.specs.declared.Row.{Row}
 use Rattle.graph.specs.Graph.{Layered, at, blank, head, pass_arc, tail, take_arc, takes}
 use Rattle.flow.specs.Arcs.{item_arcs, numbers, takes_item}
 use Rattle.flow.proofs.Paths.{takes_pass, takes_take}
-use Rattle.lp.specs.Writing.{InOrder, NodesOf}
+use Rattle.lp.specs.Writing.{Begins, InOrder, NodesOf}
 use Rattle.lp.proofs.Entries.{filter_alike, numbers_on, numbers_skip}
 
 pub layered_order : {m : ℕ} {g : List Row} → Layered m g → InOrder g
@@ -18,21 +18,46 @@ layered_order {g = g} h v w le lt = go (cases_lt (at g w).item (at g v).item)
     go (inl less) = absurd (omega (arith, h.by_item w v lt (omega arith) less))
     go (inr ok) = ok
 
--- the nodes between those of lower items and those of higher ones
-pub nodes_between : (g : List Row) (i start end : ℕ) → start ≤ length g → end ≤ length g →
-    IsPartitionPoint (λ (r : Row). ltb r.item i ≡ true) (λ (r : Row). ltb r.item i ≡ false) g start →
-    IsPartitionPoint (λ (r : Row). leb r.item i ≡ true) (λ (r : Row). leb r.item i ≡ false) g end → NodesOf g i start end
-nodes_between g i start end low high s e = record {
-  inside = high;
-  order = go (cases_lt end start);
-  of_item = λ v le lt. omega (arith, ltb-false (at g v).item i (s.1 v blank le (omega arith)), leb-true (at g v).item i (e.0 v blank (omega arith) lt));
-  before = λ v lt. ltb-true (at g v).item i (s.0 v blank (omega arith) lt);
-  after = λ v le lt. leb-false (at g v).item i (e.1 v blank le lt);
+-- the nodes of the first item begin at the source
+pub first_begins : {m : ℕ} {g : List Row} → Layered m g → Begins g 0 1
+first_begins {g = g} h = record {
+  inside = omega arith;
+  before = λ v lt. absurd (omega arith);
+  after = λ v le lt. omega (arith, h.source.0, layered_order h 0 v (omega arith) lt);
+}
+
+-- the nodes of an item are the rows of that item from where they begin, up to the first of another
+pub nodes_from : (g : List Row) (i start len : ℕ) → InOrder g → Begins g start i → len ≡ prefix_len (λ (r : Row). eqb r.item i) (drop start g) → NodesOf g i start (start + len)
+nodes_from g i start len order begin e = record {
+  inside = omega (arith, begin.inside, e, prefix_len-le-length own (drop start g), length-drop start g);
+  order = omega arith;
+  of_item = λ v le lt. eqb-true (at g v).item i (ap own (sym (placed v le)) ∙ prefix_len_passes own (drop start g) (v - start) blank (omega (arith, e)));
+  before = begin.before;
+  after = λ v le lt. omega (arith, order (start + len) v le lt, begin.after (start + len) (omega arith) (omega arith), other (omega arith));
 }
   where
-    go : (end < start) ⊎ (start ≤ end) → start ≤ end
-    go (inl less) = absurd (omega (arith, ltb-true (at g end).item i (s.0 end blank (omega arith) less), leb-false (at g end).item i (e.1 end blank (omega arith) (omega arith))))
-    go (inr ok) = ok
+    own : Row → Bool
+    own r = eqb r.item i
+
+    placed : (v : ℕ) → start ≤ v → get_or (drop start g) (v - start) blank ≡ at g v
+    placed v le = get_or-drop start g (v - start) blank ∙ ap (at g) (omega arith)
+
+    other : start + len < length g → (at g (start + len)).item ≡ i → ⊥
+    other lt =
+        eqb-false (at g (start + len)).item i
+        (ap own (sym (ap (λ n. get_or (drop start g) n blank) (sym e) ∙ get_or-drop start g len blank)) ∙ prefix_len_stops own (drop start g) blank (omega (arith, e, length-drop start g)))
+
+-- where an item's nodes end, those of the next item begin
+pub next_begins : (g : List Row) (i start end : ℕ) → NodesOf g i start end → Begins g end (i + 1)
+next_begins g i start end nodes = record {
+  inside = nodes.inside;
+  before = λ v lt. go v lt (cases_lt v start);
+  after = λ v le lt. omega (arith, nodes.after v le lt);
+}
+  where
+    go : (v : ℕ) → v < end → (v < start) ⊎ (start ≤ v) → (at g v).item < i + 1
+    go v lt (inl low) = omega (arith, nodes.before v low)
+    go v lt (inr le) = omega (arith, nodes.of_item v le lt)
 
 off : (x y z : Bool) → z ≡ false → x && (y && z) ≡ false
 off true true z e = e

@@ -27,6 +27,11 @@ pub record Written (s : Writer) (bytes : List ℕ) (t : Writer) : Type 0 where
   pub at : s.at + length bytes ≤ length s.out.now → t.at ≡ s.at + length bytes
   pub cells : s.at + length bytes ≤ length s.out.now → t.out.now ≡ filled s.out.now s.at bytes
 
+-- bytes that find no room leave the place and the memory as they are
+pub record LetGo (s : Writer) (bytes : List ℕ) (t : Writer) : Type 0 where
+  pub at : length s.out.now < s.at + length bytes → t.at ≡ s.at
+  pub cells : length s.out.now < s.at + length bytes → t.out.now ≡ s.out.now
+
 -- memory is too short and stays as it is
 pub record Refuses (bytes before after : List ℕ) : Type 0 where
   pub short : length before < length bytes

@@ -21,6 +21,12 @@ arc_entry l k a = lead l k ++ variable (X a)
 abbrev pub InOrder : List Row → Type 0
 InOrder g = (v w : ℕ) → v ≤ w → w < length g → (at g v).item ≤ (at g w).item
 
+-- the nodes of item i begin at node n: those before are of lower items, and no other is
+pub record Begins (g : List Row) (n i : ℕ) : Type 0 where
+  pub inside : n ≤ length g
+  pub before : (v : ℕ) → v < n → (at g v).item < i
+  pub after : (v : ℕ) → n ≤ v → v < length g → i ≤ (at g v).item
+
 -- the nodes of item i are those from `start` on and below `end`
 pub record NodesOf (g : List Row) (i start end : ℕ) : Type 0 where
   pub inside : end ≤ length g

@@ -5,7 +5,7 @@ ghost use Rattle.graph.specs.Graph.{at};
 ghost use Rattle.flow.specs.Arcs.{arcs_out, item_arcs};
 ghost use Rattle.flow.specs.Model.{item_row, item_rows, node_row, node_rows, plus, supply};
 ghost use Rattle.flow.specs.Text.{constraint, entries, term};
-ghost use Rattle.lp.specs.Writing.{InOrder, NodesOf};
+ghost use Rattle.lp.specs.Writing.{Begins, InOrder, NodesOf};
 
 use crate::arcs::{Lead, line_break, write_arcs};
 use crate::links::LinkedGraph;
@@ -67,42 +67,62 @@ pub(crate) fn write_node_rows<S: Sink>(sink: &mut S, graph: LinkedGraph)
     }
 }
 
-// The nodes of an item, which stand together.
-fn nodes_of(rows: &[Row], item: usize) -> Range<usize>
-    requires { InOrder rows.now }
+// The nodes of an item, which stand together and begin at `start`.
+fn nodes_of(rows: &[Row], item: usize, start: usize) -> Range<usize>
+    requires order { InOrder rows.now }
+    requires begin { Begins rows.now start item }
     ensures { NodesOf rows.now item result.start result.end }
 {
-    let start = rows.partition_point(|row| (row.item as usize) < item);
-    let end = rows.partition_point(|row| row.item as usize <= item);
-    start..end
+    let len = rows[start..]
+        .iter()
+        .take_while(|row| row.item as usize == item)
+        .count();
+    start..start + len
 }
 
-// The take arcs of an item as terms.
-fn write_takes<S: Sink>(sink: &mut S, graph: LinkedGraph, item: usize)
-    ensures { S.took sink.old (entries term 0 (plus (item_arcs graph.entry.rows.now item))) sink.new }
+// The take arcs of an item, whose nodes begin at `start`, as terms. Answers where its nodes end.
+fn write_takes<S: Sink>(sink: &mut S, graph: LinkedGraph, item: usize, start: usize) -> usize
+    requires { Begins graph.rows.now start item }
+    ensures took { S.took sink.old (entries term 0 (plus (item_arcs graph.entry.rows.now item))) sink.new }
+    ensures end { Begins graph.entry.rows.now result (item + 1) }
 {
     let rows = graph.rows;
-    let arcs = nodes_of(rows, item)
+    let nodes = nodes_of(rows, item, start);
+    let end = nodes.end;
+    let arcs = nodes
         .map(|node| 2 * node + 1)
         .filter(|arc| head_of(rows, *arc).is_some());
     write_arcs(sink, Lead::Added, 0, arcs);
+    end
 }
 
-fn write_item_row<S: Sink>(sink: &mut S, graph: LinkedGraph, item: usize, demand: usize)
-    ensures { S.took sink.old (constraint (item_row graph.entry.rows.now item demand)) sink.new }
+// The row of an item, whose nodes begin at `start`. Answers where they end.
+fn write_item_row<S: Sink>(
+    sink: &mut S,
+    graph: LinkedGraph,
+    item: usize,
+    start: usize,
+    demand: usize,
+) -> usize
+    requires { Begins graph.rows.now start item }
+    ensures took { S.took sink.old (constraint (item_row graph.entry.rows.now item demand)) sink.new }
+    ensures end { Begins graph.entry.rows.now result (item + 1) }
 {
     write_label(sink, b" d", item);
-    write_takes(sink, graph, item);
+    let end = write_takes(sink, graph, item, start);
     sink.put(b" >= ");
     sink.put_number(demand);
     sink.put(b"\n");
+    end
 }
 
-// The items are numbered from 1. One function for both kinds of rows would need a closure that borrows the sink.
+// The items are numbered from 1. Each row hands on where the next item's nodes begin, so that no row searches all nodes.
+// One function for both kinds of rows would need a closure that borrows the sink.
 pub(crate) fn write_item_rows<S: Sink>(sink: &mut S, graph: LinkedGraph, demands: &[u32])
     ensures { S.took sink.old (flat_map constraint (item_rows graph.entry.rows.now 1 demands.now)) sink.new }
 {
+    let mut start = 0;
     for (i, demand) in demands.iter().enumerate() {
-        write_item_row(sink, graph, i + 1, *demand as usize);
+        start = write_item_row(sink, graph, i + 1, start, *demand as usize);
     }
 }

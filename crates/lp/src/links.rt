@@ -4,7 +4,7 @@ ghost use Rattle.std.specs.Iterator.{YieldsFirst, item_count};
 ghost use Rattle.graph.specs.Graph.{Layered, head};
 ghost use Rattle.flow.specs.Arcs.{arcs_into};
 ghost use Rattle.lp.specs.Links.{Linked};
-ghost use Rattle.lp.specs.Writing.{InOrder};
+ghost use Rattle.lp.specs.Writing.{Begins, InOrder};
 
 use graph::{Row, head_of};
 use std::mem;
@@ -18,6 +18,7 @@ pub(crate) struct LinkedGraph<'a> {
     next: &'a [u32],
     ghost few: { length rows.now ≤ 65535 },
     ghost order: { InOrder rows.now },
+    ghost begin: { Begins rows.now 0 1 },
     ghost links: { Linked rows.now first.now next.now },
 }
 

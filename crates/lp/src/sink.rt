@@ -1,6 +1,6 @@
 // What takes bytes: memory that they fill, or a count of the room that they need.
 ghost use Rattle.std.specs.Prelude.{ℕ, List, decimal};
-ghost use Rattle.lp.specs.Sinks.{Measured, TakesInTurn, Written};
+ghost use Rattle.lp.specs.Sinks.{LetGo, Measured, TakesInTurn, Written};
 ghost use Rattle.lp.specs.SinkLaws.{measured_in_turn, written_in_turn};
 
 use itoa::Buffer;
@@ -52,7 +52,10 @@ impl<'a> Sink for Writer<'a> {
 
     ghost in_turn = { written_in_turn };
 
-    fn put(&mut self, bytes: &[u8]) {
+    fn put(&mut self, bytes: &[u8])
+        ensures took { Written self.old bytes.now self.new }
+        ensures no_room { LetGo self.old bytes.now self.new }
+    {
         if self.at <= self.out.len() && bytes.len() <= self.out.len() - self.at {
             let end = self.at + bytes.len();
             self.out[self.at..end].copy_from_slice(bytes);

@@ -1,12 +1,13 @@
 -- What a reader of fields has left, and what it hands out.
-use Rattle.std.specs.Prelude.{◌≡◌, ℕ, ◌+◌, List, [], ◌∷◌, drop, Some, None, Option}
-use Rattle.std.specs.Option.{option_copied}
+use Rattle.std.specs.Prelude.{◌≡◌, ℕ, ◌+◌, List, [], ◌∷◌, drop, Some, None, Option, ◌==◌}
+use Rattle.std.specs.List.{before_first}
+use Rattle.std.specs.Option.{ForSome, option_copied}
 use Rattle.refusal.specs.declared.Refusal.{Refusal}
 use Rattle.refusal.specs.declared.Refusal.TheVariants.{WrongFieldCount}
 use Rattle.texts.specs.declared.lines.Line.{Line}
 use Rattle.texts.specs.declared.fields.Part.{Part}
 use Rattle.texts.specs.declared.fields.Fields.{Fields}
-use Rattle.texts.specs.Split.{words}
+use Rattle.texts.specs.Split.{after_mark, words}
 
 -- the words of what is left of a line; there are none where the line has ended
 abbrev pub words_of : Option (List ℕ) → List (List ℕ)
@@ -17,8 +18,10 @@ words_of (Some bs) = words bs
 abbrev pub words_left : Fields → List (List ℕ)
 words_left r = words_of (option_copied r.rest)
 
--- a reader handed out the next word, with its place
+-- a reader handed out what it had left up to the next space, with its place, and has left what stands after that, if anything
 pub record PartGiven (was : Fields) (part : Part) (is : Fields) : Type 0 where
+  pub bytes : ForSome was.rest (λ bs. part.bytes.now ≡ before_first (λ b. b == 32) bs.now)
+  pub after : ForSome was.rest (λ bs. option_copied is.rest ≡ after_mark 32 bs.now)
   pub line : part.line ≡ was.line
   pub number : part.number ≡ was.number + 1
   pub counted : is.number ≡ was.number + 1
@@ -37,6 +40,7 @@ pub record FieldsEnded (was is : Fields) : Type 0 where
 
 -- a reader of a whole line
 pub record AllFields (whole : Line) (is : Fields) : Type 0 where
+  pub text : option_copied is.rest ≡ Some whole.bytes.now
   pub line : is.line ≡ whole.number
   pub number : is.number ≡ 0
   pub left : words_left is ≡ words whole.bytes.now

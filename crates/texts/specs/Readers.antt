@@ -1,6 +1,7 @@
 -- What a reader of lines has left, and what it hands out.
-use Rattle.std.specs.Prelude.{◌≡◌, ℕ, ◌+◌, List, [], ◌∷◌, drop, Ok}
+use Rattle.std.specs.Prelude.{◌≡◌, ℕ, ◌+◌, List, [], ◌∷◌, drop, Ok, ◌==◌}
 use Rattle.std.specs.Borrow.{Bor}
+use Rattle.std.specs.List.{after_first, before_first}
 use Rattle.texts.specs.Grammar.{Read, and_then}
 use Rattle.texts.specs.declared.lines.Line.{Line}
 use Rattle.texts.specs.declared.lines.Lines.{Lines}
@@ -10,8 +11,10 @@ use Rattle.texts.specs.Split.{lines}
 abbrev pub lines_left : Lines → List (List ℕ)
 lines_left r = lines r.rest.now
 
--- a reader handed out the next line, with its number
+-- a reader handed out what it had left up to the next line feed, with its number, and has left what stands after that
 pub record LineGiven (was : Lines) (line : Line) (is : Lines) : Type 0 where
+  pub part : line.bytes.now ≡ before_first (λ b. b == 10) was.rest.now
+  pub after : is.rest.now ≡ after_first (λ b. b == 10) was.rest.now
   pub number : line.number ≡ was.number + 1
   pub counted : is.number ≡ was.number + 1
   pub left : lines_left was ≡ line.bytes.now ∷ lines_left is
@@ -23,6 +26,7 @@ pub record LinesEnded (was is : Lines) : Type 0 where
 
 -- a reader of a whole text
 pub record AllLines (bytes : List ℕ) (is : Lines) : Type 0 where
+  pub text : is.rest.now ≡ bytes
   pub number : is.number ≡ 0
   pub left : lines_left is ≡ lines bytes
 

@@ -4,7 +4,8 @@ ghost use Rattle.std.specs.List.{before_first};
 ghost use Rattle.std.specs.Option.{option_copied};
 ghost use Rattle.texts.specs.Split.{after_mark};
 
-// Where the first `mark` stands.
+// Where the first `mark` stands. By itself, so that its loop has the registers to itself.
+#[inline(never)]
 fn find(text: &[u8], mark: u8) -> Option<usize>
     ensures { result ≡ position (λ b. b == mark) text.now }
 {

@@ -1,5 +1,5 @@
 // Compile: the graph of the items in place of the job's.
-ghost use Rattle.std.specs.Prelude.{◌≡◌, ◌≤◌, length};
+ghost use Rattle.std.specs.Prelude.{◌≡◌, ◌≤◌, length, All};
 ghost use Rattle.packing.specs.Given.{orders_of};
 ghost use Rattle.packing.specs.Problem.{demands};
 ghost use Rattle.flow.specs.Scans.{demands_of};
@@ -20,7 +20,8 @@ use refusal::Refusal;
 // Takes over the demands of the items, with no copies left.
 fn set_items(records: &mut ArrayVec<ItemRecord, MAX_ITEMS>, items: &[Item<'_>])
     requires { length items.now ≤ 64 }
-    ensures { demands_of records.new.items ≡ demands (orders_of items.now) }
+    ensures demands { demands_of records.new.items ≡ demands (orders_of items.now) }
+    ensures fresh { All (λ item. item.left ≡ 0) records.new.items }
 {
     records.clear();
     for item in items {

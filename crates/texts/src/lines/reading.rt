@@ -17,7 +17,8 @@ fn prints(b: u8) -> bool
     (b' '..=b'~').contains(&b)
 }
 
-// Whether all bytes are printable ASCII.
+// Whether all bytes are printable ASCII. By itself, so that its loop has the registers to itself.
+#[inline(never)]
 fn is_printable(bytes: &[u8]) -> bool
     ensures { result ≡ printable bytes.now }
 {
@@ -55,7 +56,7 @@ impl<'t> Lines<'t> {
 
     // The next line, whatever its bytes. An empty rest is no line, while it is a field: so the readers of lines and of
     // fields are two, and share the cut alone.
-    #[tactic(auto, using(crate::proofs::Splits::lines_none, crate::proofs::Splits::lines_cut))]
+    #[tactic(auto, using(crate::proofs::Splits::lines_none))]
     pub(crate) fn next(&mut self) -> Option<Line<'t>>
         ensures { MatchOption result (LinesEnded self.old self.new) (λ line. LineGiven self.old line self.new) }
     {

@@ -1,16 +1,20 @@
-use Rattle.std.proofs.Common.{ltb, leb, rules}
-use Rattle.std.specs.List.Sorted.{IsNonDecreasingBy}
-use Rattle.std.proofs.lemmas.List.Sorted.{IsNonDecreasingBy-from_default, IsPartitionPoint-from_clause, IsPartitionedBy-leb, IsPartitionedBy-ltb}
+use Rattle.std.proofs.Common.{eqb, drop, ◌∙◌, rules, tests}
+use Rattle.std.proofs.lemmas.Iterator.{YieldsList-from_slice}
+use Rattle.std.proofs.lemmas.Iterator.Consumers.{YieldsList-at, count_from_yields_List}
+use Rattle.std.proofs.lemmas.Iterator.Search.{YieldsList-from_take_while}
+use Rattle.std.proofs.lemmas.List.{take_rest}
+use Rattle.std.proofs.lemmas.List.Folds.{length-prefix_len}
 use Rattle.graph.specs.declared.Row.{Row}
-use Rattle.graph.specs.Graph.{blank}
-use Rattle.lp.proofs.Items.{nodes_between}
+use Rattle.lp.proofs.Items.{nodes_from}
 use Rattle.lp.proofs.constraints.nodes_of.Goals as goal
 
 pub returns : goal.returns
 returns c =
     let rows = c.args.rows.now in
     let i = c.args.item in
-    let rising : IsNonDecreasingBy (λ (r : Row). r.item) rows = IsNonDecreasingBy-from_default (λ (r : Row). r.item) rows blank (λ v w le lt. c.requires v w le lt) in
-    nodes_between rows i _ _ c.partition_point-start.ensures.bound c.partition_point-end.ensures.bound
-    (IsPartitionPoint-from_clause (λ (r : Row). ltb r.item i) rows _ c.partition_point-start.ensures.partitioned (IsPartitionedBy-ltb (λ (r : Row). r.item) rows i rising) (λ a r q k. search rules))
-    (IsPartitionPoint-from_clause (λ (r : Row). leb r.item i) rows _ c.partition_point-end.ensures.partitioned (IsPartitionedBy-leb (λ (r : Row). r.item) rows i rising) (λ a r q k. search rules))
+    let start = c.args.start in
+    nodes_from rows i start _ c.requires.order c.requires.begin
+    (count_from_yields_List c.take_while.result _ c.count-len.ensures.ran
+    (YieldsList-from_take_while _ (λ (r : Row). eqb r.item i) (YieldsList-at c.take_while.ensures.source (YieldsList-from_slice (drop start rows) (c.iter.ensures.rest ∙ take_rest rows start)))
+    c.take_while.ensures.closure c.take_while.ensures.done (λ x b q k. search (rules, tests)))
+    ∙ length-prefix_len (λ (r : Row). eqb r.item i) (drop start rows))

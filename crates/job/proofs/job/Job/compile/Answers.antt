@@ -18,7 +18,7 @@ invariant_of-self-2 g c =
     let told = c.compile.ensures in
     record {
       sound = compiled_stays g.K.Kind.amount k its b xs fine c.size.result c.min-room.result c.size.ensures c.min-room.ensures c.compile.new.rows told.room told.memory
-          c.compile.new.memory _ told.compiles c.in_ok-nodes.nodes c.in_ok-nodes.ensures.ok_part c.compile.auto.memory c.set_items.new.records c.set_items.ensures _ c.wipe.ensures;
+          c.compile.new.memory _ told.compiles c.in_ok-nodes.nodes c.in_ok-nodes.ensures.ok_part c.compile.auto.memory c.set_items.new.records c.set_items.ensures.demands _ c.wipe.ensures;
     }
 
 pub returns-clause-compiled : goal.returns-clause-compiled
@@ -30,7 +30,7 @@ returns-clause-compiled g c =
     let fine = passed (flaw k (orders_of its)) c.in_ok-check_items.ensures in
     let told = c.compile.ensures in
     compiles g.K.Kind.amount k its b xs fine c.size.result c.min-room.result c.size.ensures c.min-room.ensures c.compile.new.rows told.room told.memory
-    c.compile.new.memory _ told.compiles c.in_ok-nodes.nodes c.in_ok-nodes.ensures.ok_part c.compile.auto.memory c.set_items.new.records c.set_items.ensures _ _ c.wipe.ensures refl
+    c.compile.new.memory _ told.compiles c.in_ok-nodes.nodes c.in_ok-nodes.ensures.ok_part c.compile.auto.memory c.set_items.new.records c.set_items.ensures.demands _ _ c.wipe.ensures refl
 
 pub returns-in_err-check_items-clause-spells : goal.returns-in_err-check_items-clause-spells
 returns-in_err-check_items-clause-spells g c = spells_patterns
