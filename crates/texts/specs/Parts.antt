@@ -28,9 +28,10 @@ pub record PartGiven (was : Fields) (part : Part) (is : Fields) : Type 0 where
   pub same_line : is.line ≡ was.line
   pub left : words_left was ≡ part.bytes.now ∷ words_left is
 
--- no word is left, which is told by the line
-pub record PartMissing (was : Fields) (e : Refusal) : Type 0 where
+-- no word is left, which is told by the line, and the reader stays as it is
+pub record PartMissing (was : Fields) (e : Refusal) (is : Fields) : Type 0 where
   pub error : e ≡ WrongFieldCount was.line
+  pub same : is ≡ was
   pub left : words_left was ≡ []
 
 -- a reader with no field left stays as it is

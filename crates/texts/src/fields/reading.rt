@@ -62,7 +62,7 @@ impl<'t> Fields<'t> {
 
     // The next field, which has to be there.
     pub(crate) fn part(&mut self) -> Result<Part<'t>, Refusal>
-        ensures { MatchResult result (λ part. PartGiven self.old part self.new) (λ e. PartMissing self.old e) }
+        ensures { MatchResult result (λ part. PartGiven self.old part self.new) (λ e. PartMissing self.old e self.new) }
     {
         self.next()
             .ok_or(Refusal::WrongFieldCount { line: self.line })
